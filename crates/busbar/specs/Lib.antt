@@ -1,0 +1,5 @@
+pub mod Distance
+pub mod Question
+pub mod Rounding
+pub mod Section
+pub mod Record

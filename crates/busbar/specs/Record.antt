@@ -34,6 +34,10 @@ section-inside s =
     && within 10000 17000 (s .«plastic_factor»)
     && sub-bars-inside (s .«sub_bars»)
 
+-- a round section's k is 1,000
+abbrev pub factor-round : Record → Bool
+factor-round r = not (r .section .round) || eqb (r .«distance_factor») 1000
+
 -- without sub-bars there are no pieces to fit
 abbrev pub spacing-fits-in : Option SubBars → ℕ → Bool
 spacing-fits-in None span = true
@@ -47,7 +51,7 @@ record-questions r =
     (q.SectionFigures, section-inside (r .section))
     ∷ (q.Span, within 50 3000 (r .span))
     ∷ (q.CentreDistance, within 20 1000 (r .«centre_distance»))
-    ∷ (q.DistanceFactor, within 100 1500 (r .«distance_factor») && (not (r .section .round) || eqb (r .«distance_factor») 1000))
+    ∷ (q.DistanceFactor, within 100 1500 (r .«distance_factor») && factor-round r)
     ∷ (q.YieldStress, within 20 400 (r .«yield_stress»))
     ∷ (q.RatedDensity, within 50 200 (r .«rated_density»))
     ∷ (q.SupportStrength, within 100 100000 (r .«support_strength»))

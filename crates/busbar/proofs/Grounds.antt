@@ -61,27 +61,27 @@ module _ (x : Record) (I Q : ℕ) (heat : Q ≤ heat-limit x) where
 -- the same from what the code found: its figures, its limits and its answer v
 module _ (x : Record) (I Q : ℕ) (figures : Figures) (heat plastic : ℕ) (v : Verdict) where
   pub refused-on-sub-bars :
-    v ≡ refused-on ground.SubBarStress (figures .«sub_stress») (yield-limit x)
-    → figures ≡ figures-under x I → heat ≡ heat-limit x
-    → Q ≤ heat → yield-limit x < figures .«sub_stress» → v ≡ verdict-under x I Q
+      v ≡ refused-on ground.SubBarStress (figures .«sub_stress») (yield-limit x)
+      → figures ≡ figures-under x I → heat ≡ heat-limit x
+      → Q ≤ heat → yield-limit x < figures .«sub_stress» → v ≡ verdict-under x I Q
   refused-on-sub-bars is found limit h s = simp (is, found) (sym (sub-bars-fail x I Q (simp (← limit) h) (simp (← found) s)))
 
   pub refused-on-total :
-    v ≡ refused-on ground.TotalStress (figures .«total_stress») plastic
-    → figures ≡ figures-under x I → heat ≡ heat-limit x → plastic ≡ plastic-limit x
-    → Q ≤ heat → figures .«sub_stress» ≤ yield-limit x → plastic < figures .«total_stress» → v ≡ verdict-under x I Q
+      v ≡ refused-on ground.TotalStress (figures .«total_stress») plastic
+      → figures ≡ figures-under x I → heat ≡ heat-limit x → plastic ≡ plastic-limit x
+      → Q ≤ heat → figures .«sub_stress» ≤ yield-limit x → plastic < figures .«total_stress» → v ≡ verdict-under x I Q
   refused-on-total is found limit most h s t =
       simp (is, found, most) (sym (total-fails x I Q (simp (← limit) h) (simp (← found) s) (simp (← found, ← most) t)))
 
   pub refused-on-load :
-    v ≡ refused-on ground.SupportLoad (figures .«support_load») (strength-limit x)
-    → figures ≡ figures-under x I → heat ≡ heat-limit x → plastic ≡ plastic-limit x
-    → Q ≤ heat → figures .«sub_stress» ≤ yield-limit x → figures .«total_stress» ≤ plastic → strength-limit x < figures .«support_load» → v ≡ verdict-under x I Q
+      v ≡ refused-on ground.SupportLoad (figures .«support_load») (strength-limit x)
+      → figures ≡ figures-under x I → heat ≡ heat-limit x → plastic ≡ plastic-limit x
+      → Q ≤ heat → figures .«sub_stress» ≤ yield-limit x → figures .«total_stress» ≤ plastic → strength-limit x < figures .«support_load» → v ≡ verdict-under x I Q
   refused-on-load is found limit most h s t l =
       simp (is, found) (sym (load-fails x I Q (simp (← limit) h) (simp (← found) s) (simp (← found, ← most) t) (simp (← found) l)))
 
   pub accepted-on-all :
-    figures ≡ figures-under x I → heat ≡ heat-limit x → plastic ≡ plastic-limit x
-    → Q ≤ heat → figures .«sub_stress» ≤ yield-limit x → figures .«total_stress» ≤ plastic → figures .«support_load» ≤ strength-limit x → Accepted ≡ verdict-under x I Q
+      figures ≡ figures-under x I → heat ≡ heat-limit x → plastic ≡ plastic-limit x
+      → Q ≤ heat → figures .«sub_stress» ≤ yield-limit x → figures .«total_stress» ≤ plastic → figures .«support_load» ≤ strength-limit x → Accepted ≡ verdict-under x I Q
   accepted-on-all found limit most h s t l =
       sym (none-fails x I Q (simp (← limit) h) (simp (← found) s) (simp (← found, ← most) t) (simp (← found) l))

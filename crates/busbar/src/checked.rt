@@ -40,7 +40,9 @@ fn first_no(bar: &Record) -> Option<Question>
     if !inside(bar.centre_distance, 20, 1_000) {
         return Some(Question::CentreDistance);
     }
-    if !inside(bar.distance_factor, 100, 1_500) || bar.section.round && bar.distance_factor != 1_000 {
+    if !inside(bar.distance_factor, 100, 1_500)
+        || bar.section.round && bar.distance_factor != 1_000
+    {
         return Some(Question::DistanceFactor);
     }
     if !inside(bar.yield_stress, 20, 400) {
@@ -68,7 +70,8 @@ fn figures_inside(section: &Section) -> bool
     match section.sub_bars {
         None => main,
         Some(bars) => {
-            main && inside(bars.count, 2, 3)
+            main
+                && inside(bars.count, 2, 3)
                 && inside(bars.modulus, 10_000, 1_000_000_000)
                 && inside(bars.distance, 13, 80)
                 && inside(bars.spacing, 20, 3_000)

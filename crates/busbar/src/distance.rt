@@ -5,8 +5,11 @@ ghost use Rattle.busbar.specs.Distance.{column-of, stack-distance};
 
 // Rows by count and thickness, columns by height: 40, 50, 60, 80, 100, 120, 160, 200. Zero stands for a dash.
 const TWO_OF_5: [u32; 8] = [20, 24, 27, 33, 40, 0, 0, 0];
+
 const TWO_OF_10: [u32; 8] = [28, 31, 34, 41, 47, 54, 67, 80];
+
 const THREE_OF_5: [u32; 8] = [0, 13, 15, 18, 22, 0, 0, 0];
+
 const THREE_OF_10: [u32; 8] = [17, 19, 20, 23, 27, 30, 37, 43];
 
 // The column of a height, or 8 where the table has none.

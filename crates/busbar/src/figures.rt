@@ -20,7 +20,9 @@ impl CheckedRecord {
     pub fn span_force(&self, peak: Peak) -> Force
         ensures { λ r. ⌜ r .units ≡ span-force (now (self .entry) .bar) (peak .amps) ⌝ }
     {
-        let along = self.current_force(peak) * self.bar.span as u64 * self.bar.distance_factor as u64;
+        let along = self.current_force(peak)
+            * self.bar.span as u64
+            * self.bar.distance_factor as u64;
         Force {
             units: rounded_up(along, 100_000 * self.bar.centre_distance as u64),
         }
@@ -48,7 +50,10 @@ impl CheckedRecord {
         ensures { λ r. ⌜ r ≡ main-stress (now (self .entry) .bar) (force .units) ⌝ }
     {
         let share = stress_factor(self.bar.reclosing) * self.bar.scheme.bending_share();
-        rounded_up(share * force.units * self.bar.span as u64, 800 * self.bar.section.modulus as u64)
+        rounded_up(
+            share * force.units * self.bar.span as u64,
+            800 * self.bar.section.modulus as u64,
+        )
     }
 
     // The bending stress of a sub-bar (σ_s,d), kPa, 0 without sub-bars.

@@ -98,7 +98,12 @@ impl Section {
             area: count * bar_area(height, thickness),
             plastic_factor: 15_000,
             round: false,
-            sub_bars: Some(SubBars { count, modulus: one, distance, spacing }),
+            sub_bars: Some(SubBars {
+                count,
+                modulus: one,
+                distance,
+                spacing,
+            }),
         })
     }
 }

@@ -131,5 +131,9 @@ fn first_failing(bar: &CheckedRecord, peak: Peak, heat: u64) -> Verdict
 fn refused(ground: Ground, figure: u64, limit: u64) -> Verdict
     ensures { λ r. ⌜ r ≡ refused-on ground figure limit ⌝ }
 {
-    Verdict::Refused(Refusal { ground, figure, limit })
+    Verdict::Refused(Refusal {
+        ground,
+        figure,
+        limit,
+    })
 }

@@ -28,9 +28,9 @@ rounded-up-requires c κs =
 pub ghost-result : need.ghost-result
 ghost-result c =
     elim (c .match-self .came) [
-      in-None w ↦ search needs
-    | in-Some w ↦
-      let inside = bars-in (c .args .self .now .bar) (w .in-Some .bars) (c .args .self .now .passed) (w .in-Some .is) in
-      let most = sub-bar-force-most (Some (w .in-Some .bars)) (c .args .peak .amps) (c .args .self .now .bar .span) inside (c .args .peak .most) in
-      search needs
+      | in-None w ↦ search needs
+      | in-Some w ↦
+          let inside = bars-in (c .args .self .now .bar) (w .in-Some .bars) (c .args .self .now .passed) (w .in-Some .is) in
+          let most = sub-bar-force-most (Some (w .in-Some .bars)) (c .args .peak .amps) (c .args .self .now .bar .span) inside (c .args .peak .most) in
+          search needs
     ]

@@ -6,3 +6,4 @@ pub mod Record
 pub mod Factors
 pub mod Figures
 pub mod Verdict
+pub mod Exact

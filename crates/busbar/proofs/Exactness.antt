@@ -115,8 +115,14 @@ module _ (x : Record) (I Q : ℕ) (r : Ranges x) where
   sub-bars-cut : 1000 * x .«yield_stress» < figures-under x I .«sub_stress» → Holds ground.SubBarStress cut x I Q → ⊥
   unfolding figures-under
   sub-bars-cut h holds =
-      omega (arith, sub-near .high, mul-le-mul-right (exact-sub-stress x I .bottom) h, holds,
-        mul-le-mul-right (exact-sub-stress x I .bottom) (r .yield-in .least), bottoms x I r .sub-stress-bottom)
+      omega (
+        arith,
+        sub-near .high,
+        mul-le-mul-right (exact-sub-stress x I .bottom) h,
+        holds,
+        mul-le-mul-right (exact-sub-stress x I .bottom) (r .yield-in .least),
+        bottoms x I r .sub-stress-bottom,
+      )
 
   total-whole : figures-under x I .«total_stress» ≤ plastic-limit x → Holds ground.TotalStress whole x I Q
   unfolding figures-under plastic-limit
@@ -144,17 +150,17 @@ module _ (x : Record) (I Q : ℕ) (r : Ranges x) where
   exact-under =
       cond-both _ _ _ (ExactUnder x I Q)
       (λ q. cond-both _ _ _ (ExactUnder x I Q)
-        (λ s. cond-both _ _ _ (ExactUnder x I Q)
-          (λ t. cond-both _ _ _ (ExactUnder x I Q)
-            (λ l. record {
-              heat-holds = heat-whole (leb-true _ _ q);
-              sub-bars-hold = sub-bars-whole (leb-true _ _ s);
-              total-holds = total-whole (leb-true _ _ t);
-              load-holds = load-whole (leb-true _ _ l);
-            })
-            (λ l. load-cut (leb-false _ _ l)))
-          (λ t. total-cut (leb-false _ _ t)))
-        (λ s. sub-bars-cut (leb-false _ _ s)))
+      (λ s. cond-both _ _ _ (ExactUnder x I Q)
+      (λ t. cond-both _ _ _ (ExactUnder x I Q)
+      (λ l. record {
+        heat-holds = heat-whole (leb-true _ _ q);
+        sub-bars-hold = sub-bars-whole (leb-true _ _ s);
+        total-holds = total-whole (leb-true _ _ t);
+        load-holds = load-whole (leb-true _ _ l);
+      })
+      (λ l. load-cut (leb-false _ _ l)))
+      (λ t. total-cut (leb-false _ _ t)))
+      (λ s. sub-bars-cut (leb-false _ _ s)))
       (λ q. heat-cut (leb-false _ _ q))
 
 exact-on : (x : Record) → Ranges x → (told : Option (ℕ × ℕ)) → ExactOn x told (verdict-on x told)

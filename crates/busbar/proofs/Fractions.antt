@@ -63,7 +63,7 @@ within-from ThreePhase p z L h linear =
     let left : ℕ = L .top * z .bottom - z .top * L .bottom in
     let split : left + z .top * L .bottom ≡ L .top * z .bottom = difference (L .top * z .bottom) (z .top * L .bottom) small in
     let scaled : 866026 * (p .top * (L .bottom * z .bottom)) ≤ 1000000 * (left * p .bottom) =
-        omega (arith, ap (λ v. v * p .bottom) split) in
+    omega (arith, ap (λ v. v * p .bottom) split) in
     (small, omega (arith, root-three (p .top * (L .bottom * z .bottom)) (left * p .bottom) scaled))
 
 pub within-gives : (kind : FaultKind) (p z L : Fraction) → Within kind p z L → Linear (factor-below kind) p z L

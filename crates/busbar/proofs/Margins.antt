@@ -24,19 +24,24 @@ module _ (kind : FaultKind) (p z : Fraction) (m s : ℕ) where
   pub sum-holds : (L : Fraction) (e : ℕ) → 0 < p .bottom → NearPart m (phase-factor kind) p e → z .top ≤ s * z .bottom → (m + s) * L .bottom ≤ L .top → Within kind p z (L ⊗ whole)
   sum-holds L e pos near low fits =
       within-from kind p z (L ⊗ whole) pos
-      (omega (arith,
+      (omega (
+        arith,
         mul-le-mul-right (z .bottom * L .bottom) (near .low),
         mul-le-mul-right (p .bottom * L .bottom) low,
-        mul-le-mul-right (p .bottom * z .bottom) fits))
+        mul-le-mul-right (p .bottom * z .bottom) fits,
+      ))
 
   pub sum-fails : (L : Fraction) → 0 < p .bottom → 0 < z .bottom → 0 < L .bottom → NearPart m (phase-factor kind) p 4 → s * z .bottom ≤ z .top + 2 * z .bottom → L .top < (m + s) * L .bottom → 20000 * L .bottom ≤ L .top → Within kind p z (L ⊗ cut) → ⊥
   sum-fails L pos-p pos-z pos-L near high past large holds =
       let linear = within-gives kind p z (L ⊗ cut) holds in
       let volume : 0 < p .bottom * z .bottom * L .bottom = mul-pos (mul-pos pos-p pos-z) pos-L in
-      omega (arith,
+      omega (
+        arith,
         mul-le-mul-right (z .bottom * L .bottom) (near .high),
         mul-le-mul-right (p .bottom * L .bottom) high,
         mul-le-mul-right (p .bottom * z .bottom) past,
         mul-le-mul-right (p .bottom * z .bottom) large,
         mul-le-mul-right (p .top * (z .bottom * L .bottom)) (factors-close kind),
-        linear, volume)
+        linear,
+        volume,
+      )

@@ -25,7 +25,6 @@ infixl 35 _⊗_
 infixl 30 _⊕_
 infixl 30 _⊖_
 infix 20 _≼_
-
 abbrev pub _÷_ : ℕ → ℕ → Fraction
 n ÷ d = record { top = n; bottom = d }
 

@@ -7,3 +7,4 @@ pub mod Factors
 pub mod Figures
 pub mod Verdict
 pub mod Exact
+pub mod Harder

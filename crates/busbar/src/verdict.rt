@@ -1,5 +1,7 @@
 // The verdict on one bar: accepted, or refused on the first ground that fails.
 ghost use mathlib.Core.Path.{_≡_};
+ghost use Rattle.busbar.specs.Exact.{Exact};
+ghost use Rattle.busbar.specs.Harder.{NoSofterThanEasier};
 ghost use Rattle.busbar.specs.Verdict.{ground-number, heat-limit, plastic-limit, figures-under, refused-on, verdict, verdict-under};
 use super::amount::Peak;
 use super::checked::CheckedRecord;
@@ -90,6 +92,14 @@ impl CheckedRecord {
 
 // The verdict on a bar under the peak and heat that were told. A pair outside a feeder's ranges counts as nothing.
 pub fn judge(bar: &CheckedRecord, told: Option<(u32, u64)>) -> Verdict
+    ensures value { λ r. ⌜ r ≡ verdict (now (bar .entry) .bar) told ⌝ }
+    ensures exact { λ r. ⌜ Exact (now (bar .entry) .bar) told r ⌝ }
+    ensures harder { λ r. ⌜ NoSofterThanEasier (now (bar .entry) .bar) told r ⌝ }
+{
+    judged(bar, told)
+}
+
+fn judged(bar: &CheckedRecord, told: Option<(u32, u64)>) -> Verdict
     ensures { λ r. ⌜ r ≡ verdict (now (bar .entry) .bar) told ⌝ }
 {
     let Some((amps, heat)) = told else {

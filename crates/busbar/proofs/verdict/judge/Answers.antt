@@ -1,19 +1,16 @@
-use borrow.Author.Needs.{needs}
-use Rattle.busbar.specs.Verdict.{verdict}
+use mathlib.Core.Path.{subst, sym}
+use Rattle.busbar.specs.Exact.{Exact}
+use Rattle.busbar.specs.Harder.{NoSofterThanEasier}
+use Rattle.busbar.proofs.Exactness.{exact}
+use Rattle.busbar.proofs.Softness.{no-softer}
 use Rattle.busbar.proofs.verdict.judge.Needs as need
 
-pub returns-in-rest : need.returns-in-rest
-unfolding verdict
-returns-in-rest c = search needs
-
-pub returns-in-rest-new : need.returns-in-rest-new
-unfolding verdict
-returns-in-rest-new c = search needs
-
-pub returns-then-heat-lt1 : need.returns-then-heat-lt1
-unfolding verdict
-returns-then-heat-lt1 c = search needs
-
 pub returns : need.returns
-unfolding verdict
-returns c = search needs
+returns c =
+    let bar = c .args .bar .now in
+    let is = c .judged .ensures in
+    record {
+      value = is;
+      exact = subst (Exact (bar .bar) (c .args .told)) (sym is) (exact (bar .bar) (bar .passed) (c .args .told));
+      harder = subst (NoSofterThanEasier (bar .bar) (c .args .told)) (sym is) (no-softer (bar .bar) (c .args .told) (bar .passed));
+    }

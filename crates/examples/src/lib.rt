@@ -1,0 +1,9 @@
+// Worked examples of the library, as tests.
+#[cfg(test)]
+mod bars;
+#[cfg(test)]
+mod distances;
+#[cfg(test)]
+mod grounds;
+#[cfg(test)]
+mod questions;

@@ -1,0 +1,35 @@
+// One line of a table: fields parted by tabs, each read as a whole number.
+// The fields of a line from left to right.
+#[derive(Drop)]
+pub struct Row<'a> {
+    rest: &'a str,
+}
+
+impl<'a> Row<'a> {
+    pub fn new(line: &'a str) -> Row<'a> {
+        Row { rest: line }
+    }
+
+    // The next field; an empty one past the last.
+    pub fn word(&mut self) -> &'a str {
+        match self.rest.split_once('\t') {
+            Some((word, rest)) => {
+                self.rest = rest;
+                word
+            }
+            None => {
+                let word = self.rest;
+                self.rest = "";
+                word
+            }
+        }
+    }
+
+    pub fn small(&mut self) -> Option<u32> {
+        self.word().parse::<u32>().ok()
+    }
+
+    pub fn large(&mut self) -> Option<u64> {
+        self.word().parse::<u64>().ok()
+    }
+}

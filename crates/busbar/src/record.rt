@@ -1,16 +1,14 @@
 // The record: one bar as it is entered.
 use super::section::Section;
-use crate::section::SectionDebug;
-use crate::section::SectionPartialEq;
 
-#[derive(Clone, Copy, PartialEq, Eq, Debug)]
+#[derive(Clone, Copy)]
 pub enum FaultKind {
     ThreePhase,
     TwoLine,
 }
 
 // How the bar is held.
-#[derive(Clone, Copy, PartialEq, Eq, Debug)]
+#[derive(Clone, Copy)]
 pub enum Scheme {
     // one span, both ends simple
     BothSimple,
@@ -23,7 +21,7 @@ pub enum Scheme {
     MoreSpans,
 }
 
-#[derive(Clone, Copy, PartialEq, Eq, Debug)]
+#[derive(Clone, Copy)]
 pub struct Record {
     pub kind: FaultKind,
     pub scheme: Scheme,

@@ -7,7 +7,7 @@ use super::distance::effective_distance;
 use super::question::Question;
 
 // The equal bars of a stack.
-#[derive(Clone, Copy, PartialEq, Eq, Debug)]
+#[derive(Clone, Copy)]
 pub struct SubBars {
     // n
     pub count: u32,
@@ -20,7 +20,7 @@ pub struct SubBars {
 }
 
 // A section's figures. The main force acts along a bar's thickness.
-#[derive(Clone, Copy, PartialEq, Eq, Debug)]
+#[derive(Clone, Copy)]
 pub struct Section {
     // W, thousandths of mm³ (W_m)
     pub modulus: u32,

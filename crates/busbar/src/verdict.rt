@@ -7,7 +7,7 @@ use super::amount::Peak;
 use super::checked::CheckedRecord;
 
 // What a bar has to pass, in this order.
-#[derive(Clone, Copy, PartialEq, Eq, Debug)]
+#[derive(Clone, Copy)]
 pub enum Ground {
     // the feeder gave figures
     Figures,
@@ -36,21 +36,21 @@ impl Ground {
 }
 
 // The ground that failed, with the figure and the limit that it passed. Both are 0 on ground 1.
-#[derive(Clone, Copy, PartialEq, Eq, Debug)]
+#[derive(Clone, Copy)]
 pub struct Refusal {
     pub ground: Ground,
     pub figure: u64,
     pub limit: u64,
 }
 
-#[derive(Clone, Copy, PartialEq, Eq, Debug)]
+#[derive(Clone, Copy)]
 pub enum Verdict {
     Accepted,
     Refused(Refusal),
 }
 
 // What a peak does to a bar: stresses in kPa, the load on the worse support in mN.
-#[derive(Clone, Copy, PartialEq, Eq, Debug)]
+#[derive(Clone, Copy)]
 pub struct Figures {
     pub main_stress: u64,
     pub sub_stress: u64,

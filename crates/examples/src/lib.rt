@@ -7,3 +7,5 @@ mod distances;
 mod grounds;
 #[cfg(test)]
 mod questions;
+#[cfg(test)]
+mod sizes;

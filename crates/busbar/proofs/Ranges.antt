@@ -48,7 +48,7 @@ yeses : (l : List Answered) → not (isSome (first-no l)) ≡ true → Yeses l
 yeses [] h = tt
 yeses (a ∷ rest) h = let p = yes-then (a .1) (a .0) rest h in (p .0, yeses rest (p .1))
 
-inside-of : (low high x : ℕ) → within low high x ≡ true → In low high x
+pub inside-of : (low high x : ℕ) → within low high x ≡ true → In low high x
 inside-of low high x h =
     let p = and-parts _ _ h in record { least = leb-true low x (p .0); most = leb-true x high (p .1) }
 

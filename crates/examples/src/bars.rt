@@ -8,7 +8,7 @@ use busbar::verdict::Verdict;
 use busbar::verdict::judge;
 
 // A bar 60 by 10, three-phase, in three spans and more, without reclosing.
-pub fn bar_60_by_10() -> Record {
+pub(crate) fn bar_60_by_10() -> Record {
     with_section(Section {
         modulus: 1_000_000,
         area: 600_000,
@@ -18,7 +18,7 @@ pub fn bar_60_by_10() -> Record {
     })
 }
 
-pub fn with_section(section: Section) -> Record {
+pub(crate) fn with_section(section: Section) -> Record {
     Record {
         kind: FaultKind::ThreePhase,
         scheme: Scheme::MoreSpans,
@@ -34,7 +34,7 @@ pub fn with_section(section: Section) -> Record {
 }
 
 // The number of the first question that got a no, 0 where none did.
-pub fn first_no(record: Record) -> u32 {
+pub(crate) fn first_no(record: Record) -> u32 {
     match CheckedRecord::new(record) {
         Ok(_) => 0,
         Err(question) => question.number(),
@@ -42,7 +42,7 @@ pub fn first_no(record: Record) -> u32 {
 }
 
 // Ground, figure and limit of the verdict: zeros where accepted, and 99 where a question got a no.
-pub fn verdict_on(record: Record, told: Option<(u32, u64)>) -> (u32, u64, u64) {
+pub(crate) fn verdict_on(record: Record, told: Option<(u32, u64)>) -> (u32, u64, u64) {
     match CheckedRecord::new(record) {
         Err(_) => (99, 0, 0),
         Ok(bar) => match judge(&bar, told) {

@@ -6,12 +6,12 @@ pub struct Row<'a> {
 }
 
 impl<'a> Row<'a> {
-    pub fn new(line: &'a str) -> Row<'a> {
+    pub(crate) fn new(line: &'a str) -> Row<'a> {
         Row { rest: line }
     }
 
     // The next field; an empty one past the last.
-    pub fn word(&mut self) -> &'a str {
+    pub(crate) fn word(&mut self) -> &'a str {
         match self.rest.split_once('\t') {
             Some((word, rest)) => {
                 self.rest = rest;
@@ -25,11 +25,11 @@ impl<'a> Row<'a> {
         }
     }
 
-    pub fn small(&mut self) -> Option<u32> {
+    pub(crate) fn small(&mut self) -> Option<u32> {
         self.word().parse::<u32>().ok()
     }
 
-    pub fn large(&mut self) -> Option<u64> {
+    pub(crate) fn large(&mut self) -> Option<u64> {
         self.word().parse::<u64>().ok()
     }
 }

@@ -17,7 +17,7 @@ struct Made {
     distance: u32,
 }
 
-pub fn agrees(line: &str) -> bool {
+pub(crate) fn agrees(line: &str) -> bool {
     match compared(line) {
         Some(equal) => equal,
         None => false,

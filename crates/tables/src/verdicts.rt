@@ -24,7 +24,7 @@ struct Judged {
     limit: u64,
 }
 
-pub fn agrees(line: &str) -> bool {
+pub(crate) fn agrees(line: &str) -> bool {
     match compared(line) {
         Some(equal) => equal,
         None => false,

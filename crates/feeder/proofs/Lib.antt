@@ -1,0 +1,4 @@
+pub mod Figures
+pub mod Grids
+pub mod Sums
+pub mod Curves

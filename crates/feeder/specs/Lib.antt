@@ -1,0 +1,4 @@
+pub mod Fuse
+pub mod Grid
+pub mod Laws
+pub mod Motors

@@ -1,6 +1,4 @@
 // Judges one bar of a compressor board and prints the line that goes onto the list.
-ghost use mathlib.Core.Path.{_≡_};
-ghost use Rattle.std.specs.Results.{Cases};
 use busbar::amount::Peak;
 use busbar::checked::CheckedRecord;
 use busbar::question::Question;
@@ -10,6 +8,9 @@ use busbar::record::Scheme;
 use busbar::section::Section;
 use busbar::verdict::Verdict;
 use busbar::verdict::judge;
+use feeder::grid::Grid;
+use feeder::grid::GridFeeder;
+use feeder::tells::Feeder;
 use std::io;
 
 // The bar: 60 by 10, in three spans and more, one metre each.
@@ -58,9 +59,21 @@ fn print_figures(rt: &impl Print, bar: &CheckedRecord, told: Option<(u32, u64)>)
     println!(rt, "{stress} {load}")
 }
 
+// What the grid brings at a prospective current of 16,000 A.
+fn supply() -> Result<Option<(u32, u64)>, Question> {
+    Ok(Grid::new(1_350, 1_100, 1_000)?.tell(16_000))
+}
+
+// Judges the bar under that supply, or answers the question that got a no.
+fn judge_bar(rt: &impl Print) -> Result<io::Result<()>, Question> {
+    let bar = compressor_bar()?;
+    let told = supply()?;
+    Ok(print_line(rt, 1, &bar, told))
+}
+
 fn main(rt: LibcRuntime) -> io::Result<()> {
-    match compressor_bar() {
-        Ok(bar) => print_line(&rt, 1, &bar, Some((30_548, 281_600_000_000))),
+    match judge_bar(&rt) {
+        Ok(printed) => printed,
         Err(question) => {
             let number = question.number();
             println!(rt, "error {number}")

@@ -4,6 +4,8 @@ mod bars;
 #[cfg(test)]
 mod distances;
 #[cfg(test)]
+mod feeders;
+#[cfg(test)]
 mod grounds;
 #[cfg(test)]
 mod questions;

@@ -72,10 +72,10 @@ point-rises (p ∷ rest) m n h le =
     let recursive = point-rises rest m n (order-after p rest tail) le in
     cond-both (leb m (p .level)) (Some p) (counting rest m) (λ o. NoSmaller (through (counting (p ∷ rest) n)) (through o))
     (λ _. cond-both (leb n (p .level)) (Some p) (counting rest n) (λ o. NoSmaller (through o) (through (Some p)))
-      (λ _. (le-refl _, le-refl _)) (λ _. after p rest n tail))
+    (λ _. (le-refl _, le-refl _)) (λ _. after p rest n tail))
     (λ past.
-      let above : leb n (p .level) ≡ false = lt-leb n (p .level) (omega (arith, leb-false m (p .level) past)) in
-      subst (λ o. NoSmaller (through o) (through (counting rest m))) (sym (cond-false (leb n (p .level)) (Some p) (counting rest n) above)) recursive)
+    let above : leb n (p .level) ≡ false = lt-leb n (p .level) (omega (arith, leb-false m (p .level) past)) in
+    subst (λ o. NoSmaller (through o) (through (counting rest m))) (sym (cond-false (leb n (p .level)) (Some p) (counting rest n) above)) recursive)
 
 point-in-ranges : (points : List Point) (n : ℕ) → in-order points ≡ true → InRanges (through (counting points n))
 point-in-ranges [] n h = tt
@@ -128,7 +128,7 @@ takes-is xs p h =
 pub counts-here : (xs ys : List Point) (i n : ℕ) (d : Point) → xs ≡ ys → counting xs n ≡ counting (drop i xs) n → i < length xs → n ≤ getD xs i d .level → Some (getD xs i d) ≡ counting ys n
 counts-here xs ys i n d same inv h le =
     sym (ap (λ l. counting l n) (sym same) ∙ inv ∙ at-drop-more (λ l. counting l n) xs i d h
-      ∙ cond-true (leb n (getD xs i d .level)) _ _ (le-leb _ _ le))
+    ∙ cond-true (leb n (getD xs i d .level)) _ _ (le-leb _ _ le))
 
 pub counts-later : (xs : List Point) (i n : ℕ) (d : Point) → counting xs n ≡ counting (drop i xs) n → i < length xs → getD xs i d .level < n → counting xs n ≡ counting (drop (i + 1) xs) n
 counts-later xs i n d inv h lt =

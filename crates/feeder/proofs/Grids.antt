@@ -39,23 +39,25 @@ module _ (kappa s T : ℕ) (sizes : Sizes kappa s T) where
   figures-in n h =
       let peak : 100000 ≤ n * kappa = mul-le-mul {n₁ = 100} {m₁ = 1000} (h .least) (sizes .kappa-in .least) in
       let heat : 200000 ≤ n * n * s * T =
-          mul-le-mul {n₁ = 10000} {m₁ = 20} (mul-le-mul {n₁ = 10000} {m₁ = 1} (mul-le-mul {n₁ = 100} {m₁ = 100} (h .least) (h .least)) (sizes .factor-in .least)) (sizes .duration-in .least) in
-      (omega (arith, le-up (n * kappa * 1414214) 1000000000 (lit≤ tt)),
-       peak-most n kappa (h .most) (sizes .kappa-in .most),
-       omega (arith, le-up (n * n * s * T) 1000 (lit≤ tt)),
-       up-le _ 1000 200000000000000 (lit≤ tt) (omega (arith, heat-top n s T (h .most) (sizes .factor-in .most) (sizes .duration-in .most))))
+      mul-le-mul {n₁ = 10000} {m₁ = 20} (mul-le-mul {n₁ = 10000} {m₁ = 1} (mul-le-mul {n₁ = 100} {m₁ = 100} (h .least) (h .least)) (sizes .factor-in .least)) (sizes .duration-in .least) in (
+        omega (arith, le-up (n * kappa * 1414214) 1000000000 (lit≤ tt)),
+        peak-most n kappa (h .most) (sizes .kappa-in .most),
+        omega (arith, le-up (n * n * s * T) 1000 (lit≤ tt)),
+        up-le _ 1000 200000000000000 (lit≤ tt) (omega (arith, heat-top n s T (h .most) (sizes .factor-in .most) (sizes .duration-in .most))),
+      )
 
   figures-rise : (m n : ℕ) → m ≤ n → NoSmaller (Some (grid-peak kappa n, grid-heat s T n)) (Some (grid-peak kappa m, grid-heat s T m))
-  figures-rise m n h =
-      (up-mono _ _ 1000000000 1000000000 (lit≤ tt) (mul-le-mul (mul-le-mul h (le-refl kappa)) (le-refl 1414214)) (lit≤ tt),
-       up-mono _ _ 1000 1000 (lit≤ tt) (mul-le-mul (mul-le-mul (mul-le-mul h h) (le-refl s)) (le-refl T)) (lit≤ tt))
+  figures-rise m n h = (
+    up-mono _ _ 1000000000 1000000000 (lit≤ tt) (mul-le-mul (mul-le-mul h (le-refl kappa)) (le-refl 1414214)) (lit≤ tt),
+    up-mono _ _ 1000 1000 (lit≤ tt) (mul-le-mul (mul-le-mul (mul-le-mul h h) (le-refl s)) (le-refl T)) (lit≤ tt),
+  )
 
   pub grid-lawful : Lawful (grid-tells kappa s T)
   grid-lawful = record {
     outside = λ n h. cond-false (level-inside n) _ _ h;
     in-ranges = λ n. cond-both (level-inside n) _ _ InRanges (λ e. figures-in n (inside-of 100 100000 n e)) (λ _. tt);
     rises = λ m n least le.
-      cond-both (level-inside n) _ _ (λ t. NoSmaller t (grid-tells kappa s T m))
-      (λ e. subst (NoSmaller (Some (grid-peak kappa n, grid-heat s T n))) (sym (cond-true (level-inside m) _ _ (level-below m n least le e))) (figures-rise m n le))
-      (λ _. nothing-largest _);
+        cond-both (level-inside n) _ _ (λ t. NoSmaller t (grid-tells kappa s T m))
+        (λ e. subst (NoSmaller (Some (grid-peak kappa n, grid-heat s T n))) (sym (cond-true (level-inside m) _ _ (level-below m n least le e))) (figures-rise m n le))
+        (λ _. nothing-largest _);
   }

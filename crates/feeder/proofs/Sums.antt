@@ -21,10 +21,10 @@ pub maxima-rise : (x y x′ y′ : ℕ) → x′ ≤ x → y′ ≤ y → NoSmal
 maxima-rise x y x′ y′ hx hy =
     cond-both (leb x 300000 && leb y 200000000000000) (Some (x, y)) None (λ t. NoSmaller t (within-maxima x′ y′))
     (λ e.
-      let most = maxima-true x y e in
-      let low : (leb x′ 300000 && leb y′ 200000000000000) ≡ true =
-          and-from (leb x′ 300000) (leb y′ 200000000000000) (le-leb x′ 300000 (omega arith)) (le-leb y′ 200000000000000 (omega arith)) in
-      subst (NoSmaller (Some (x, y))) (sym (cond-true (leb x′ 300000 && leb y′ 200000000000000) (Some (x′, y′)) None low)) (hx, hy))
+    let most = maxima-true x y e in
+    let low : (leb x′ 300000 && leb y′ 200000000000000) ≡ true =
+    and-from (leb x′ 300000) (leb y′ 200000000000000) (le-leb x′ 300000 (omega arith)) (le-leb y′ 200000000000000 (omega arith)) in
+    subst (NoSmaller (Some (x, y))) (sym (cond-true (leb x′ 300000 && leb y′ 200000000000000) (Some (x′, y′)) None low)) (hx, hy))
     (λ _. nothing-largest (within-maxima x′ y′))
 
 pub maxima-in-ranges : (x y : ℕ) → 1 ≤ x → 1 ≤ y → InRanges (within-maxima x y)

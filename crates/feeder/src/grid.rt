@@ -30,8 +30,15 @@ impl Grid {
     pub fn new(kappa: u32, heat_factor: u32, duration: u32) -> Result<Grid, Question>
         ensures { λ r. ⌜ Cases r (λ g. (g .kappa ≡ kappa) × (g .«heat_factor» ≡ «heat_factor») × (g .duration ≡ duration) × (grid-sizes kappa «heat_factor» duration ≡ true)) (λ q. (q ≡ GridSize) × (grid-sizes kappa «heat_factor» duration ≡ false)) ⌝ }
     {
-        if inside(kappa, 1_000, 2_000) && inside(heat_factor, 1, 3_000) && inside(duration, 20, 5_000) {
-            Ok(Grid { kappa, heat_factor, duration })
+        if inside(kappa, 1_000, 2_000)
+            && inside(heat_factor, 1, 3_000)
+            && inside(duration, 20, 5_000)
+        {
+            Ok(Grid {
+                kappa,
+                heat_factor,
+                duration,
+            })
         } else {
             Err(Question::GridSize)
         }

@@ -1,18 +1,20 @@
-// One line of a table: fields parted by tabs, each read as a whole number.
+// One line of a table: fields parted by one character, each read as a whole number.
+
 // The fields of a line from left to right.
 #[derive(Drop)]
 pub struct Row<'a> {
     rest: &'a str,
+    by: char,
 }
 
 impl<'a> Row<'a> {
-    pub(crate) fn new(line: &'a str) -> Row<'a> {
-        Row { rest: line }
+    pub(crate) fn new(line: &'a str, by: char) -> Row<'a> {
+        Row { rest: line, by }
     }
 
     // The next field; an empty one past the last.
     pub(crate) fn word(&mut self) -> &'a str {
-        match self.rest.split_once('\t') {
+        match self.rest.split_once(self.by) {
             Some((word, rest)) => {
                 self.rest = rest;
                 word

@@ -25,7 +25,7 @@ pub(crate) fn agrees(line: &str) -> bool {
 }
 
 fn compared(line: &str) -> Option<bool> {
-    let mut row = Row::new(line);
+    let mut row = Row::new(line, '\t');
     let kind = row.word();
     let x = row.small()?;
     let y = row.small()?;

@@ -32,7 +32,7 @@ pub(crate) fn agrees(line: &str) -> bool {
 }
 
 fn compared(line: &str) -> Option<bool> {
-    let mut row = Row::new(line);
+    let mut row = Row::new(line, '\t');
     let bar = CheckedRecord::new(record(&mut row)?).ok()?;
     let amps = row.small()?;
     let heat = row.large()?;

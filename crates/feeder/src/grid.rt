@@ -51,9 +51,9 @@ impl Grid {
             return None;
         }
         let amps = level as u64;
-        let peak = (amps * self.kappa as u64 * 1_414_214).div_ceil(1_000_000_000);
-        let heat = (amps * amps * self.heat_factor as u64 * self.duration as u64).div_ceil(1_000);
-        Some((peak as u32, heat))
+        let peak = amps * self.kappa as u64 * 1_414_214;
+        let heat = amps * amps * self.heat_factor as u64 * self.duration as u64;
+        Some((peak.div_ceil(1_000_000_000) as u32, heat.div_ceil(1_000)))
     }
 }
 

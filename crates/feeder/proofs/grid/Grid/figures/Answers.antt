@@ -3,14 +3,14 @@ use Rattle.busbar.specs.Rounding.{up}
 use Rattle.feeder.proofs.Grids.{peak-top, square-top, heat-top, peak-most}
 use Rattle.feeder.proofs.grid.Grid.figures.Needs as need
 
-pub mul-amps-2 : need.mul-amps-2
-mul-amps-2 c = search (needs, peak-top)
+pub mul-peak-2 : need.mul-peak-2
+mul-peak-2 c = search (needs, peak-top)
 
-pub mul-amps-4 : need.mul-amps-4
-mul-amps-4 c = search (needs, square-top)
+pub mul-heat-2 : need.mul-heat-2
+mul-heat-2 c = search (needs, square-top)
 
-pub mul-amps-5 : need.mul-amps-5
-mul-amps-5 c = search (needs, heat-top)
+pub mul-heat-3 : need.mul-heat-3
+mul-heat-3 c = search (needs, heat-top)
 
 pub cast-result : need.cast-result
 unfolding up

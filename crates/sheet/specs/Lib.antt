@@ -1,0 +1,4 @@
+pub mod Calls
+pub mod Happened
+pub mod Plain
+pub mod Position

@@ -1,0 +1,7 @@
+// The board sheet: positions, slips, every call, and its stored form.
+pub mod asks;
+pub mod calls;
+pub mod counts;
+pub mod position;
+pub mod sheet;
+pub mod slip;

@@ -1,2 +1,4 @@
 pub mod Tables
 pub mod Shows
+pub mod Stores
+pub mod Loads

@@ -4,7 +4,7 @@ use mathlib.Core.Bool.{Bool, true, false, cond, _&&_}
 use mathlib.Core.List.{List, [], _∷_}
 use Prim.Native.Nat.{ℕ, suc, _+_, _-_}
 use lib.Dec.{eqb, ltb}
-use lib.ListN.{getD}
+use lib.ListN.{length, getD}
 use Rattle.std.specs.declared.result.Result.{Result}
 use Rattle.std.specs.declared.result.Result.the-variants.{Ok, Err}
 use Rattle.busbar.specs.Rounding.{within}
@@ -16,6 +16,7 @@ use Rattle.busbar.specs.declared.verdict.Verdict.{Verdict}
 use Rattle.busbar.specs.declared.verdict.Verdict.the-variants.{Accepted, Refused}
 use Rattle.feeder.specs.Laws.{Told, level-inside}
 use Rattle.sheet.specs.Plain.{Entry, Plain, positions, change-at, change-by-slip}
+use Rattle.sheet.specs.Stored.{LoadNo, load-of, saved-blocks, buffer-after}
 use Rattle.sheet.specs.declared.position.Change.the-variants as change
 
 -- a slip counts as its job and position, a buffer as the call receives it
@@ -26,6 +27,8 @@ pub data Call : Type 0 where
   opening : ℕ → Call
   close : ℕ → ℕ → Record → Call
   withdraw : ℕ → ℕ → Call
+  save : List ℕ → Call
+  load : List ℕ → Call
   ask-position : ℕ → Call
   ask-counts : Call
   ask-release : Call
@@ -42,6 +45,10 @@ pub data Answer : Type 0 where
   done : Answer
   refused : Question → Answer
   gave-slip : ℕ → ℕ → Answer
+  -- what a save answers, and the buffer afterwards
+  saved : Result ℕ Question → List ℕ → Answer
+  -- a load's no, with the number of the block that it is about
+  not-loaded : LoadNo → Answer
   shows : Shown → Answer
   counted : ℕ → ℕ → ℕ → Answer
   says : Bool → Answer
@@ -92,6 +99,10 @@ abbrev pub settle : Plain → Answer → Result (List Entry) Question → Plain 
 settle p a (Ok es) = (record { job = p .job; level = p .level; entries = es }, a)
 settle p a (Err no-to) = (p, refused no-to)
 
+abbrev pub settle-load : Plain → Result (ℕ × List Entry) LoadNo → Plain × Answer
+settle-load p (Ok found) = (record { job = p .job; level = found .0; entries = found .1 }, done)
+settle-load p (Err no-to) = (p, not-loaded no-to)
+
 abbrev pub step : (ℕ → Told) → Plain → Call → Plain × Answer
 step tells p (enter n r) = settle p done (change-at q.PositionNumber (p .entries) n (change.Enter r))
 step tells p (strike n) = settle p done (change-at q.PositionNumber (p .entries) n change.Strike)
@@ -100,6 +111,9 @@ step tells p (close j n r) = settle p done (change-by-slip p j n (change.Close r
 step tells p (withdraw j n) = settle p done (change-by-slip p j n change.Withdraw)
 step tells p (set-level n) =
     cond (level-inside n) (record { job = p .job; level = n; entries = p .entries }, done) (p, refused q.Level)
+step tells p (save buffer) =
+    (p, saved (saved-blocks p (length buffer)) (buffer-after p buffer (saved-blocks p (length buffer))))
+step tells p (load bytes) = settle-load p (load-of p bytes)
 step tells p (ask-position n) =
     (p, cond (within 1 positions n) (shows (shown (tells (p .level)) (getD (p .entries) (n - 1) Entry.empty))) (refused q.PositionNumber))
 step tells p ask-counts =

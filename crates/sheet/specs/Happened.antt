@@ -9,7 +9,9 @@ use Rattle.feeder.specs.Laws.{Told}
 use Rattle.sheet.specs.Plain.{Entry, Plain, change-at, change-by-slip}
 use Rattle.sheet.specs.Position.{entry-of, again}
 use Rattle.sheet.specs.Calls.{Call, Answer, Shown, step, accepted-in, refused-in, open-in}
+use Rattle.sheet.specs.Stored.{no-at}
 use Rattle.sheet.specs.declared.counts.Counts.{Counts}
+use Rattle.sheet.specs.declared.load.NotLoaded.{NotLoaded}
 use Rattle.sheet.specs.declared.position.Change.{Change}
 use Rattle.sheet.specs.declared.position.Position.{Position}
 use Rattle.sheet.specs.declared.position.State.{State}
@@ -65,6 +67,11 @@ counted-with c s = record {
   refused = c .refused + refused-in (shown-of s);
   opened = c .opened + open-in (shown-of s);
 }
+
+-- a load's result
+abbrev pub loaded-or-no : {T : Type 0} → Result T NotLoaded → Answer
+loaded-or-no (Ok _) = Answer.done
+loaded-or-no (Err no-to) = Answer.not-loaded (no-at (no-to .block) (no-to .question))
 
 -- a slip that was not spent comes back as it was, with the question
 abbrev pub spent-or-no : {T : Type 0} → Result T Unspent → Answer

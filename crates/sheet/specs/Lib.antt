@@ -2,3 +2,5 @@ pub mod Calls
 pub mod Happened
 pub mod Plain
 pub mod Position
+pub mod Stored
+pub mod Loading

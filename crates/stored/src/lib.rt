@@ -1,0 +1,3 @@
+// The stored form, block by block.
+pub mod block;
+pub mod read;

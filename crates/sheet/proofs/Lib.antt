@@ -2,3 +2,4 @@ pub mod Tables
 pub mod Shows
 pub mod Stores
 pub mod Loads
+pub mod Trips

@@ -128,16 +128,13 @@ lines-all table old buffer at i inv h =
     ∙ ap (λ l. (take 512 old ++ position-blocks 1 (entries-of table)) ++ l) (inv .behind ∙ ap (λ n. drop n old) place)
     ∙ append-assoc (take 512 old) (position-blocks 1 (entries-of table)) _
 
--- block 0 in front, and the blocks of the positions behind it: that is what a save answers
-pub saved-is : (p : Plain) (buffer part after : List ℕ) (n : ℕ) → n ≡ standing-in (p .entries) → open-ones (p .entries) ≡ 0 → 512 * (1 + n) ≤ length buffer
+-- block 0 in front, and the blocks of the positions behind it
+pub saved-whole : (p : Plain) (buffer part after : List ℕ) (n : ℕ) → n ≡ standing-in (p .entries) → 512 * (1 + n) ≤ length buffer
     → part ≡ cond (eqb (length (take 512 buffer)) 512) (block-of (header-byte (p .job) (p .level) n)) (take 512 buffer)
     → after ≡ take 512 (part ++ drop 512 buffer) ++ (position-blocks 1 (p .entries) ++ drop (512 * (1 + standing-in (p .entries))) (part ++ drop 512 buffer))
-    → saved (Ok (1 + n)) after ≡ saved (saved-blocks p (length buffer)) (buffer-after p buffer (saved-blocks p (length buffer)))
-saved-is p buffer part after n count shut room head lines =
+    → after ≡ stored p ++ drop (512 * (1 + standing-in (p .entries))) buffer
+saved-whole p buffer part after n count room head lines =
     let s : ℕ = standing-in (p .entries) in
-    let roomy : 512 * (1 + s) ≤ length buffer = omega arith in
-    let expected : saved-blocks p (length buffer) ≡ Ok (1 + s) =
-    cond-true _ _ _ (eq-eqb _ _ shut) ∙ cond-true _ _ _ (le-leb _ _ roomy) in
     let long : length (take 512 buffer) ≡ 512 = length-take-le 512 buffer (omega arith) in
     let header : part ≡ block-of (header-byte (p .job) (p .level) s) =
     head ∙ cond-true _ _ _ (eq-eqb _ _ long) ∙ ap (λ m. block-of (header-byte (p .job) (p .level) m)) count in
@@ -145,9 +142,18 @@ saved-is p buffer part after n count shut room head lines =
     let front : take 512 (part ++ drop 512 buffer) ≡ part = take-at part (drop 512 buffer) 512 part-long in
     let behind : drop (512 * (1 + s)) (part ++ drop 512 buffer) ≡ drop (512 * (1 + s)) buffer =
     drop-append-drop 512 buffer part (512 * (1 + s)) (omega arith) part-long in
-    let whole : after ≡ stored p ++ drop (512 * (1 + s)) buffer =
     lines
     ∙ ap (λ l. l ++ (position-blocks 1 (p .entries) ++ drop (512 * (1 + s)) (part ++ drop 512 buffer))) (front ∙ header)
     ∙ ap (λ l. block-of (header-byte (p .job) (p .level) s) ++ (position-blocks 1 (p .entries) ++ l)) behind
-    ∙ sym (append-assoc (block-of (header-byte (p .job) (p .level) s)) (position-blocks 1 (p .entries)) (drop (512 * (1 + s)) buffer)) in
+    ∙ sym (append-assoc (block-of (header-byte (p .job) (p .level) s)) (position-blocks 1 (p .entries)) (drop (512 * (1 + s)) buffer))
+
+-- that is what a save answers
+pub saved-is : (p : Plain) (buffer after : List ℕ) (n : ℕ) → n ≡ standing-in (p .entries) → open-ones (p .entries) ≡ 0 → 512 * (1 + n) ≤ length buffer
+    → after ≡ stored p ++ drop (512 * (1 + standing-in (p .entries))) buffer
+    → saved (Ok (1 + n)) after ≡ saved (saved-blocks p (length buffer)) (buffer-after p buffer (saved-blocks p (length buffer)))
+saved-is p buffer after n count shut room whole =
+    let s : ℕ = standing-in (p .entries) in
+    let roomy : 512 * (1 + s) ≤ length buffer = omega arith in
+    let expected : saved-blocks p (length buffer) ≡ Ok (1 + s) =
+    cond-true _ _ _ (eq-eqb _ _ shut) ∙ cond-true _ _ _ (le-leb _ _ roomy) in
     (λ k. saved (Ok (1 + count k)) (whole k)) ∙ ap (λ r. saved r (buffer-after p buffer r)) (sym expected)

@@ -4,3 +4,4 @@ pub mod Plain
 pub mod Position
 pub mod Stored
 pub mod Loading
+pub mod Trip

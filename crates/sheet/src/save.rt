@@ -5,8 +5,9 @@ ghost use Prim.Native.Nat.{_+_, _*_, _≤_, _<_};
 ghost use lib.ListN.{length, take, drop};
 ghost use Rattle.sheet.specs.Calls.Call.{save as called-save};
 ghost use Rattle.sheet.specs.Calls.Answer.{saved};
-ghost use Rattle.sheet.specs.Happened.{Happened, entries-of};
+ghost use Rattle.sheet.specs.Happened.{Happened, entries-of, plain-of};
 ghost use Rattle.sheet.specs.Position.{entry-of};
+ghost use Rattle.sheet.specs.Trip.{SavedLoads};
 ghost use Rattle.sheet.specs.Stored.{entry-block, open-one, open-ones, position-blocks, standing-in, stands-one};
 use super::position::Position;
 use super::position::State;
@@ -23,7 +24,8 @@ use stored::block::write_block;
 impl<F: Feeder> Sheet<F> {
     // Writes the sheet's blocks from the buffer's start, no byte after them, and answers their count.
     pub fn save(&self, buffer: &mut [u8]) -> Result<usize, Question>
-        ensures { λ r. ⌜ Happened (F·Feeder .meaning) (now (self .entry)) (called-save (now (buffer .entry))) (saved r (now (buffer .exit))) (now (self .entry)) ⌝ }
+        ensures happened { λ r. ⌜ Happened (F·Feeder .meaning) (now (self .entry)) (called-save (now (buffer .entry))) (saved r (now (buffer .exit))) (now (self .entry)) ⌝ }
+        ensures loads { λ r. ⌜ SavedLoads (plain-of (now (self .entry))) r (now (buffer .exit)) ⌝ }
     {
         let tally = tally_of(&self.table);
         if tally.opened != 0 {

@@ -1,80 +1,97 @@
-// Judges one bar of a compressor board and prints the line that goes onto the list.
-use busbar::amount::Peak;
-use busbar::checked::CheckedRecord;
+// A small compressor board from its first list to its release: entered, judged, mended, saved and loaded.
+mod bars;
+mod list;
+
+use bars::heavier_bar;
+use bars::small_board;
 use busbar::question::Question;
-use busbar::record::FaultKind;
 use busbar::record::Record;
-use busbar::record::Scheme;
-use busbar::section::Section;
-use busbar::verdict::Verdict;
-use busbar::verdict::judge;
 use feeder::grid::Grid;
 use feeder::grid::GridFeeder;
 use feeder::tells::Feeder;
+use list::print_list;
+use sheet::sheet::Sheet;
+use sheet::slip::Unspent;
 use std::io;
 
-// The bar: 60 by 10, in three spans and more, one metre each.
-fn compressor_bar() -> Result<CheckedRecord, Question> {
-    CheckedRecord::new(Record {
-        kind: FaultKind::ThreePhase,
-        scheme: Scheme::MoreSpans,
-        reclosing: false,
-        span: 1_000,
-        centre_distance: 200,
-        distance_factor: 1_000,
-        yield_stress: 120,
-        rated_density: 100,
-        support_strength: 3_000,
-        section: Section::bar(60, 10)?,
-    })
+const JOB: u16 = 7;
+
+// What can end the work early: a question that got a no, or output that failed.
+#[derive(Drop)]
+enum Trouble {
+    Asked(Question),
+    Output(io::Error),
 }
 
-// The number of the position, the verdict, the total stress in kPa and the support load in mN.
-fn print_line(
-    rt: &impl Print,
-    position: u32,
-    bar: &CheckedRecord,
-    told: Option<(u32, u64)>,
-) -> io::Result<()> {
-    match judge(bar, told) {
-        Verdict::Accepted => print!(rt, "{position} accepted ")?,
-        Verdict::Refused(refusal) => {
-            let ground = refusal.ground.number();
-            print!(rt, "{position} refused {ground} ")?
+impl From<Question> for Trouble as TroubleFromQuestion {
+    fn from(question: Question) -> Trouble {
+        Trouble::Asked(question)
+    }
+}
+
+impl From<io::Error> for Trouble as TroubleFromOutput {
+    fn from(error: io::Error) -> Trouble {
+        Trouble::Output(error)
+    }
+}
+
+// Another record at a position: opened, and closed with it. On a no the kept record stands again.
+fn replace<F: Feeder>(sheet: &mut Sheet<F>, position: u32, bar: Record) -> Result<(), Question> {
+    let slip = match sheet.open(position) {
+        Ok(slip) => slip,
+        Err(question) => return Err(question),
+    };
+    match sheet.close(slip, bar) {
+        Ok(()) => Ok(()),
+        Err(unspent) => {
+            let Unspent { slip, question } = unspent;
+            match sheet.withdraw(slip) {
+                Ok(()) => Err(question),
+                Err(_) => unreachable(),
+            }
         }
     }
-    print_figures(rt, bar, told)
 }
 
-fn print_figures(rt: &impl Print, bar: &CheckedRecord, told: Option<(u32, u64)>) -> io::Result<()> {
-    let Some((amps, _)) = told else {
-        return println!(rt, "- -");
-    };
-    let Some(peak) = Peak::new(amps) else {
-        return println!(rt, "- -");
-    };
-    let figures = bar.figures(peak);
-    let stress = figures.total_stress;
-    let load = figures.support_load;
-    println!(rt, "{stress} {load}")
+// The blocks of one sheet, loaded into a new one of the same job.
+fn copied(sheet: &Sheet<Grid>, grid: Grid) -> Result<Sheet<Grid>, Question> {
+    let mut buffer = [0u8; 16_896];
+    let blocks = sheet.save(&mut buffer)?;
+    let mut copy = Sheet::new(JOB, grid);
+    match copy.load(&buffer[0..512 * blocks.min(33)]) {
+        Ok(()) => Ok(copy),
+        Err(no) => Err(no.question),
+    }
 }
 
-// What the grid brings at a prospective current of 16,000 A.
-fn supply() -> Result<Option<(u32, u64)>, Question> {
-    Ok(Grid::new(1_350, 1_100, 1_000)?.tell(16_000))
-}
-
-// Judges the bar under that supply, or answers the question that got a no.
-fn judge_bar(rt: &impl Print) -> Result<io::Result<()>, Question> {
-    let bar = compressor_bar()?;
-    let told = supply()?;
-    Ok(print_line(rt, 1, &bar, told))
+fn work(rt: &impl Print) -> Result<(), Trouble> {
+    let grid = Grid::new(1_350, 1_100, 1_000)?;
+    let mut sheet = Sheet::new(JOB, grid);
+    for (position, bar) in small_board()? {
+        sheet.enter(position, bar)?;
+    }
+    sheet.set_level(16_000)?;
+    println!(rt, "as drawn, at 16000 A:")?;
+    print_list(rt, &sheet, grid.tell(16_000))?;
+    replace(&mut sheet, 4, heavier_bar()?)?;
+    println!(rt, "position 4 with heavier copper:")?;
+    print_list(rt, &sheet, grid.tell(16_000))?;
+    let copy = copied(&sheet, grid)?;
+    println!(rt, "saved and loaded again:")?;
+    print_list(rt, &copy, grid.tell(16_000))?;
+    if copy.may_release() {
+        println!(rt, "the board may be released")?;
+    } else {
+        println!(rt, "the board may not be released")?;
+    }
+    Ok(())
 }
 
 fn main(rt: LibcRuntime) -> io::Result<()> {
-    match judge_bar(&rt) {
-        Ok(printed) => printed,
-        Err(question) => {
+    match work(&rt) {
+        Ok(()) => Ok(()),
+        Err(Trouble::Output(error)) => Err(error),
+        Err(Trouble::Asked(question)) => {
             let number = question.number();
             println!(rt, "error {number}")
         }

@@ -3,3 +3,4 @@ pub mod Shows
 pub mod Stores
 pub mod Loads
 pub mod Trips
+pub mod Openings

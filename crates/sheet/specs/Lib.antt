@@ -5,3 +5,4 @@ pub mod Position
 pub mod Stored
 pub mod Loading
 pub mod Trip
+pub mod Slips

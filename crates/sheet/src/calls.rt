@@ -1,9 +1,13 @@
 // The calls that change a sheet.
+ghost use mathlib.Core.Bool.{true};
 ghost use mathlib.Core.Path.{_≡_};
 ghost use Rattle.sheet.specs.Calls.Call.{close as called-close, enter as called-enter, opening as called-open, set-level as called-set-level, strike as called-strike, withdraw as called-withdraw};
 ghost use Rattle.sheet.specs.Calls.Answer.{done};
 ghost use Rattle.sheet.specs.Happened.{ChangedAt, ChangedBySlip, Happened, Rejudged, SlipBack, Sound, answered, plain-of, slip-or-no, spent-or-no};
 ghost use Rattle.sheet.specs.Plain.{fresh};
+ghost use Rattle.sheet.specs.Slips.{Fits};
+ghost use Rattle.std.specs.Results.{isOk};
+ghost use Rattle.std.specs.Vec.{made, refused};
 use super::position::Change;
 use super::position::Position;
 use super::position::State;
@@ -51,7 +55,8 @@ impl<F: Feeder> Sheet<F> {
 
     // A standing position open, and the slip for it.
     pub fn open(&mut self, position: u32) -> Result<Slip, Question>
-        ensures { λ r. ⌜ Happened (F·Feeder .meaning) (now (self .entry)) (called-open position) (slip-or-no r) (now (self .exit)) ⌝ }
+        ensures happened { λ r. ⌜ Happened (F·Feeder .meaning) (now (self .entry)) (called-open position) (slip-or-no r) (now (self .exit)) ⌝ }
+        ensures fits { λ r. ⌜ made r (λ s. Fits s (plain-of (now (self .exit)))) ⌝ }
     {
         match self.change(position, Question::PositionNumber, Change::Open) {
             Ok(()) => Ok(Slip {
@@ -67,6 +72,7 @@ impl<F: Feeder> Sheet<F> {
     pub fn close(&mut self, slip: Slip, bar: Record) -> Result<(), Unspent>
         ensures happened { λ r. ⌜ Happened (F·Feeder .meaning) (now (self .entry)) (called-close (slip .job) (slip .position) bar) (spent-or-no r) (now (self .exit)) ⌝ }
         ensures slip { λ r. ⌜ SlipBack slip r ⌝ }
+        ensures kept { λ r. ⌜ refused r (λ _. (Fits slip (plain-of (now (self .entry))) → Fits slip (plain-of (now (self .exit))))) ⌝ }
     {
         self.spend(slip, Change::Close(bar))
     }
@@ -75,6 +81,7 @@ impl<F: Feeder> Sheet<F> {
     pub fn withdraw(&mut self, slip: Slip) -> Result<(), Unspent>
         ensures happened { λ r. ⌜ Happened (F·Feeder .meaning) (now (self .entry)) (called-withdraw (slip .job) (slip .position)) (spent-or-no r) (now (self .exit)) ⌝ }
         ensures slip { λ r. ⌜ SlipBack slip r ⌝ }
+        ensures spends { λ r. ⌜ (Fits slip (plain-of (now (self .entry))) → isOk r ≡ true) ⌝ }
     {
         self.spend(slip, Change::Withdraw)
     }

@@ -10,4 +10,8 @@ mod grounds;
 #[cfg(test)]
 mod questions;
 #[cfg(test)]
+mod sheets;
+#[cfg(test)]
 mod sizes;
+#[cfg(test)]
+mod stored;

@@ -1,5 +1,5 @@
 // The calls that change a sheet.
-ghost use mathlib.Core.Bool.{true};
+ghost use mathlib.Core.Bool.{true, false};
 ghost use mathlib.Core.Path.{_≡_};
 ghost use Rattle.sheet.specs.Calls.Call.{close as called-close, enter as called-enter, opening as called-open, set-level as called-set-level, strike as called-strike, withdraw as called-withdraw};
 ghost use Rattle.sheet.specs.Calls.Answer.{done};
@@ -57,6 +57,7 @@ impl<F: Feeder> Sheet<F> {
     pub fn open(&mut self, position: u32) -> Result<Slip, Question>
         ensures happened { λ r. ⌜ Happened (F·Feeder .meaning) (now (self .entry)) (called-open position) (slip-or-no r) (now (self .exit)) ⌝ }
         ensures fits { λ r. ⌜ made r (λ s. Fits s (plain-of (now (self .exit)))) ⌝ }
+        ensures unspent { λ r. ⌜ made r (λ s. s .spent ≡ false) ⌝ }
     {
         match self.change(position, Question::PositionNumber, Change::Open) {
             Ok(()) => Ok(Slip {

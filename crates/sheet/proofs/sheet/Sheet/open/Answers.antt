@@ -14,4 +14,5 @@ returns-in-Ok g c =
     record {
       happened = search needs;
       fits = record { same-job = refl; low = opened .0; high = opened .1; opened = opened .2 };
+      unspent = refl;
     }

@@ -1,4 +1,6 @@
 // A small compressor board from its first list to its release: entered, judged, mended, saved and loaded.
+#![tactic(auto)]
+
 mod bars;
 mod list;
 

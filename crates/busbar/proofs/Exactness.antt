@@ -10,7 +10,7 @@ use Rattle.busbar.specs.declared.record.FaultKind.{FaultKind}
 use Rattle.busbar.specs.declared.record.FaultKind.TheVariants.{ThreePhase, TwoLine}
 use Rattle.busbar.specs.declared.record.Record.{Record}
 use Rattle.busbar.specs.declared.section.SubBars.{SubBars}
-use Rattle.busbar.specs.declared.verdict.Ground.TheVariants as ground
+use Rattle.busbar.specs.declared.verdict.Ground.TheVariants as grounds
 use Rattle.busbar.specs.declared.verdict.Verdict.TheVariants.{Accepted, Refused}
 use Rattle.busbar.proofs.Ranges.{Ranges, In, SubBarsIn, ranges}
 use Rattle.busbar.proofs.Bounds.{bending_share_most, stress_factor_most, support_share_most, load_factor_most, shared_bottom}
@@ -82,13 +82,13 @@ bottoms x I r =
 -- Ground by ground.
 
 module _ (x : Record) (I Q : ℕ) (r : Ranges x) where
-  heat_whole : Q ≤ heat_limit x → Holds ground.Heat whole x I Q
+  heat_whole : Q ≤ heat_limit x → Holds grounds.Heat whole x I Q
   unfolding heat_limit
   heat_whole h =
       let down : rated_current x * 100 ≤ x.rated_density * x.section.area = omega arith in
       omega (arith, mul-le-mul down down)
 
-  heat_cut : heat_limit x < Q → Holds ground.Heat cut x I Q → ⊥
+  heat_cut : heat_limit x < Q → Holds grounds.Heat cut x I Q → ⊥
   unfolding heat_limit
   heat_cut h holds =
       let M : ℕ = rated_current x in
@@ -101,11 +101,11 @@ module _ (x : Record) (I Q : ℕ) (r : Ranges x) where
   sub_near : Near (sub_stress_of x (sub_force x I)) (exact_sub_stress x I) 2
   sub_near = sub_stress_near _ _ I _ r.sub_bars_in (stress_factor_most x.reclosing)
 
-  sub_bars_whole : (figures_under x I).sub_stress ≤ 1000 * x.yield_stress → Holds ground.SubBarStress whole x I Q
+  sub_bars_whole : (figures_under x I).sub_stress ≤ 1000 * x.yield_stress → Holds grounds.SubBarStress whole x I Q
   unfolding figures_under
   sub_bars_whole h = omega (arith, sub_near.low, mul-le-mul_right (exact_sub_stress x I).bottom h)
 
-  sub_bars_cut : 1000 * x.yield_stress < (figures_under x I).sub_stress → Holds ground.SubBarStress cut x I Q → ⊥
+  sub_bars_cut : 1000 * x.yield_stress < (figures_under x I).sub_stress → Holds grounds.SubBarStress cut x I Q → ⊥
   unfolding figures_under
   sub_bars_cut h holds =
       omega (
@@ -117,23 +117,23 @@ module _ (x : Record) (I Q : ℕ) (r : Ranges x) where
         (bottoms x I r).sub_stress_bottom,
       )
 
-  total_whole : (figures_under x I).total_stress ≤ plastic_limit x → Holds ground.TotalStress whole x I Q
+  total_whole : (figures_under x I).total_stress ≤ plastic_limit x → Holds grounds.TotalStress whole x I Q
   unfolding figures_under plastic_limit
   total_whole h =
       sum_holds x.kind _ _ _ _ (exact_plastic_limit x) 4 (bottoms x I r).main_stress_bottom (main_stress_part x I r) sub_near.low (omega arith)
 
-  total_cut : plastic_limit x < (figures_under x I).total_stress → Holds ground.TotalStress cut x I Q → ⊥
+  total_cut : plastic_limit x < (figures_under x I).total_stress → Holds grounds.TotalStress cut x I Q → ⊥
   unfolding figures_under plastic_limit
   total_cut h =
       sum_fails x.kind _ _ _ _ (exact_plastic_limit x) (bottoms x I r).main_stress_bottom (bottoms x I r).sub_stress_bottom (lit≤ tt)
       (main_stress_part x I r) sub_near.high (omega arith) (mul-le-mul {n₁ = 10000} {m₁ = 20} r.plastic_in.least r.yield_in.least)
 
-  load_whole : (figures_under x I).support_load ≤ 1000 * x.support_strength → Holds ground.SupportLoad whole x I Q
+  load_whole : (figures_under x I).support_load ≤ 1000 * x.support_strength → Holds grounds.SupportLoad whole x I Q
   unfolding figures_under
   load_whole h =
       sum_holds x.kind _ (0 ÷ 1) _ 0 (exact_strength_limit x) 4 (bottoms x I r).load_bottom (load_part x I r) (lit≤ tt) (omega arith)
 
-  load_cut : 1000 * x.support_strength < (figures_under x I).support_load → Holds ground.SupportLoad cut x I Q → ⊥
+  load_cut : 1000 * x.support_strength < (figures_under x I).support_load → Holds grounds.SupportLoad cut x I Q → ⊥
   unfolding figures_under
   load_cut h =
       sum_fails x.kind _ (0 ÷ 1) _ 0 (exact_strength_limit x) (bottoms x I r).load_bottom (lit≤ tt) (lit≤ tt)

@@ -1,6 +1,6 @@
 -- The largest products of the section makers, each from the size limits.
 use Rattle.std.proofs.Common.{◌≡◌, ℕ, ◌+◌, ◌-◌, ◌*◌, ◌/◌, ◌<◌, ◌≤◌, ap, le_of_lt, mul-le-mul_right, mul-le-mul, arith, lit≤}
-use native.Mathlib.Nat.{div_le_of_le_mul}
+use native.Mathlib.Nat.{div-le_of_le-mul}
 use Rattle.std.proofs.lemmas.Nat.{mul-lt}
 
 pub bar_most : (b t : ℕ) → b ≤ 200 → t ≤ 20 → 1000 * b * t * t ≤ 80000000
@@ -37,9 +37,9 @@ module _ (g D : ℕ) (less : g < D) where
       omega (arith, ap (λ v. D * v) ex, power4_less g D less, mul-le-mul_right (g * g * g) (le_of_lt less))
 
   pub plastic_most : 17000 * D * (D * D * D - g * g * g) / (D * D * D * D - g * g * g * g) ≤ 17000
-  plastic_most = div_le_of_le_mul (D * D * D * D - g * g * g * g) plastic_top
+  plastic_most = div-le_of_le-mul (D * D * D * D - g * g * g * g) plastic_top
 
   -- and its modulus at most that of the largest rod
   pub tube_modulus_most : D ≤ 200 → 314159 * (D * D * D * D - g * g * g * g) / (3200 * D) ≤ 785397500
   tube_modulus_most size =
-      div_le_of_le_mul (3200 * D) (omega (arith, mul-le-mul_right D (cube_most D size), power4_less g D less))
+      div-le_of_le-mul (3200 * D) (omega (arith, mul-le-mul_right D (cube_most D size), power4_less g D less))

@@ -10,7 +10,7 @@ use Rattle.busbar.specs.Harder.{NoEasier, NoEasierBars, NoEasierSubBars, NoSmall
 use Rattle.busbar.specs.declared.record.Record.{Record}
 use Rattle.busbar.specs.declared.section.SubBars.{SubBars}
 use Rattle.busbar.specs.declared.verdict.Ground.{Ground}
-use Rattle.busbar.specs.declared.verdict.Ground.TheVariants as ground
+use Rattle.busbar.specs.declared.verdict.Ground.TheVariants as grounds
 use Rattle.busbar.specs.declared.verdict.Verdict.{Verdict}
 use Rattle.busbar.specs.declared.verdict.Verdict.TheVariants.{Accepted, Refused}
 use Rattle.busbar.proofs.Ranges.{Ranges, SubBarsIn, ranges}
@@ -71,21 +71,21 @@ module _ (x y : Record) (r : Ranges x) (e : NoEasier x y) (I K : ℕ) (more : K 
 
   figure_mono : (Q P : ℕ) → P ≤ Q → (g : Ground) → figure_of g y K P ≤ figure_of g x I Q
   unfolding figures_under
-  figure_mono Q P h ground.Figures = lit≤ tt
-  figure_mono Q P h ground.Heat = h
-  figure_mono Q P h ground.SubBarStress = sub_mono
-  figure_mono Q P h ground.TotalStress = omega (arith, main_stress_mono, sub_mono)
-  figure_mono Q P h ground.SupportLoad = load_mono
+  figure_mono Q P h grounds.Figures = lit≤ tt
+  figure_mono Q P h grounds.Heat = h
+  figure_mono Q P h grounds.SubBarStress = sub_mono
+  figure_mono Q P h grounds.TotalStress = omega (arith, main_stress_mono, sub_mono)
+  figure_mono Q P h grounds.SupportLoad = load_mono
 
 limit_mono : (x y : Record) → NoEasier x y → (g : Ground) → limit_of g x ≤ limit_of g y
 unfolding heat_limit plastic_limit
-limit_mono x y e ground.Figures = lit≤ tt
-limit_mono x y e ground.Heat =
+limit_mono x y e grounds.Figures = lit≤ tt
+limit_mono x y e grounds.Heat =
     let current : rated_current x ≤ rated_current y = omega (arith, mul-le-mul e.density_no_greater e.area_no_greater) in
     mul-le-mul (mul-le-mul_left 10 current) current
-limit_mono x y e ground.SubBarStress = mul-le-mul_left 1000 e.yield_no_greater
-limit_mono x y e ground.TotalStress = omega (arith, mul-le-mul e.plastic_no_greater e.yield_no_greater)
-limit_mono x y e ground.SupportLoad = mul-le-mul_left 1000 e.strength_no_greater
+limit_mono x y e grounds.SubBarStress = mul-le-mul_left 1000 e.yield_no_greater
+limit_mono x y e grounds.TotalStress = omega (arith, mul-le-mul e.plastic_no_greater e.yield_no_greater)
+limit_mono x y e grounds.SupportLoad = mul-le-mul_left 1000 e.strength_no_greater
 
 -- The chain of grounds keeps that.
 
@@ -118,31 +118,31 @@ module _ (x y : Record) (r : Ranges x) (e : NoEasier x y) (I K Q P : ℕ) (more 
 
   under_no_softer : NoSofter (verdict_under x I Q) (verdict_under y K P)
   under_no_softer =
-      let load : Verdict = then_on y K P ground.SupportLoad Accepted in
-      let total : Verdict = then_on y K P ground.TotalStress load in
-      let load_later : (h : Ground) → ground_number h ≤ 5 → Later h load = λ h le. later_step ground.SupportLoad h _ Accepted _ _ le tt in
+      let load : Verdict = then_on y K P grounds.SupportLoad Accepted in
+      let total : Verdict = then_on y K P grounds.TotalStress load in
+      let load_later : (h : Ground) → ground_number h ≤ 5 → Later h load = λ h le. later_step grounds.SupportLoad h _ Accepted _ _ le tt in
       let total_later : (h : Ground) → ground_number h ≤ 4 → Later h total =
-      λ h le. later_step ground.TotalStress h _ load _ _ le (load_later h (omega arith)) in
-      chain ground.Heat _ _
-      (chain ground.SubBarStress _ _
-      (chain ground.TotalStress _ _ (chain ground.SupportLoad Accepted Accepted tt tt) (load_later ground.TotalStress (lit≤ tt)))
-      (total_later ground.SubBarStress (lit≤ tt)))
-      (later_step ground.SubBarStress ground.Heat _ total _ _ (lit≤ tt) (total_later ground.Heat (lit≤ tt)))
+      λ h le. later_step grounds.TotalStress h _ load _ _ le (load_later h (omega arith)) in
+      chain grounds.Heat _ _
+      (chain grounds.SubBarStress _ _
+      (chain grounds.TotalStress _ _ (chain grounds.SupportLoad Accepted Accepted tt tt) (load_later grounds.TotalStress (lit≤ tt)))
+      (total_later grounds.SubBarStress (lit≤ tt)))
+      (later_step grounds.SubBarStress grounds.Heat _ total _ _ (lit≤ tt) (total_later grounds.Heat (lit≤ tt)))
 
 -- ground 1 is the earliest
 first_ground : (g : Ground) → 1 ≤ ground_number g
-first_ground ground.Figures = lit≤ tt
-first_ground ground.Heat = lit≤ tt
-first_ground ground.SubBarStress = lit≤ tt
-first_ground ground.TotalStress = lit≤ tt
-first_ground ground.SupportLoad = lit≤ tt
+first_ground grounds.Figures = lit≤ tt
+first_ground grounds.Heat = lit≤ tt
+first_ground grounds.SubBarStress = lit≤ tt
+first_ground grounds.TotalStress = lit≤ tt
+first_ground grounds.SupportLoad = lit≤ tt
 
-no_figures_first : (w : Verdict) → Later ground.Figures w
+no_figures_first : (w : Verdict) → Later grounds.Figures w
 no_figures_first Accepted = tt
 no_figures_first (Refused s) = first_ground s.ground
 
 on_no_softer : (x y : Record) → Ranges x → NoEasier x y → (s t : Option (ℕ × ℕ)) → NoSmaller s t → NoSofter (verdict_on x s) (verdict_on y t)
-on_no_softer x y r e None t h = refused_no_softer ground.Figures 0 0 (verdict_on y t) (no_figures_first _)
+on_no_softer x y r e None t h = refused_no_softer grounds.Figures 0 0 (verdict_on y t) (no_figures_first _)
 on_no_softer x y r e (Some s) None h = absurd h
 on_no_softer x y r e (Some s) (Some t) h = under_no_softer x y r e s.0 t.0 s.1 t.1 h.0 h.1
 

@@ -7,7 +7,7 @@ use Rattle.busbar.specs.declared.record.FaultKind.TheVariants.{ThreePhase, TwoLi
 use Rattle.busbar.specs.declared.record.Record.{Record}
 use Rattle.busbar.specs.declared.section.SubBars.{SubBars}
 use Rattle.busbar.specs.declared.verdict.Ground.{Ground}
-use Rattle.busbar.specs.declared.verdict.Ground.TheVariants as ground
+use Rattle.busbar.specs.declared.verdict.Ground.TheVariants as grounds
 use Rattle.busbar.specs.declared.verdict.Refusal.{Refusal}
 use Rattle.busbar.specs.declared.verdict.Verdict.{Verdict}
 use Rattle.busbar.specs.declared.verdict.Verdict.TheVariants.{Accepted, Refused}
@@ -88,12 +88,12 @@ Within ThreePhase p z L = (z ≼ L) × ((3 ÷ 1) ⊗ (p ⊗ p) ≼ (4 ÷ 1) ⊗ 
 
 -- a ground's inequality, with its limit taken at a part of it
 abbrev pub Holds : Ground → Fraction → Record → ℕ → ℕ → Type 0
-Holds ground.Figures part x I Q = Unit {0}
-Holds ground.Heat part x I Q = Q ÷ 1 ≼ exact_heat_limit x ⊗ part
-Holds ground.SubBarStress part x I Q = exact_sub_stress x I ≼ exact_yield_limit x ⊗ part
-Holds ground.TotalStress part x I Q =
+Holds grounds.Figures part x I Q = Unit {0}
+Holds grounds.Heat part x I Q = Q ÷ 1 ≼ exact_heat_limit x ⊗ part
+Holds grounds.SubBarStress part x I Q = exact_sub_stress x I ≼ exact_yield_limit x ⊗ part
+Holds grounds.TotalStress part x I Q =
     Within x.kind (exact_main_stress x 1000000 I) (exact_sub_stress x I) (exact_plastic_limit x ⊗ part)
-Holds ground.SupportLoad part x I Q =
+Holds grounds.SupportLoad part x I Q =
     Within x.kind (exact_load x 1000000 I) (0 ÷ 1) (exact_strength_limit x ⊗ part)
 
 -- the whole limit, and the limit cut by one part in a thousand
@@ -113,10 +113,10 @@ pub record Bottoms (x : Record) (I : ℕ) : Type 0 where
 
 -- accepted: every ground holds exactly
 pub record HoldsWhole (x : Record) (I Q : ℕ) : Type 0 where
-  pub heat_holds : Holds ground.Heat whole x I Q
-  pub sub_bars_hold : Holds ground.SubBarStress whole x I Q
-  pub total_holds : Holds ground.TotalStress whole x I Q
-  pub load_holds : Holds ground.SupportLoad whole x I Q
+  pub heat_holds : Holds grounds.Heat whole x I Q
+  pub sub_bars_hold : Holds grounds.SubBarStress whole x I Q
+  pub total_holds : Holds grounds.TotalStress whole x I Q
+  pub load_holds : Holds grounds.SupportLoad whole x I Q
 
 -- refused: on ground 1 since no figures were told, on another since its exact inequality fails once its limit is cut.
 -- As ground 1 always holds where figures were told, nobody is refused on it then.
@@ -126,7 +126,7 @@ ExactUnder x I Q (Refused r) = Holds r.ground cut x I Q → ⊥
 
 abbrev pub RefusedOnFigures : Verdict → Type 0
 RefusedOnFigures Accepted = ⊥
-RefusedOnFigures (Refused r) = (r.ground ≡ ground.Figures) × (r.figure ≡ 0) × (r.limit ≡ 0)
+RefusedOnFigures (Refused r) = (r.ground ≡ grounds.Figures) × (r.figure ≡ 0) × (r.limit ≡ 0)
 
 abbrev pub ExactOn : Record → Option (ℕ × ℕ) → Verdict → Type 0
 ExactOn x None v = RefusedOnFigures v

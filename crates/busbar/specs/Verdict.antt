@@ -5,16 +5,16 @@ use Rattle.busbar.specs.Figures.{span_force, sub_force, main_stress_of, sub_stre
 use Rattle.busbar.specs.declared.record.Record.{Record}
 use Rattle.busbar.specs.declared.verdict.Figures.{Figures}
 use Rattle.busbar.specs.declared.verdict.Ground.{Ground}
-use Rattle.busbar.specs.declared.verdict.Ground.TheVariants as ground
+use Rattle.busbar.specs.declared.verdict.Ground.TheVariants as grounds
 use Rattle.busbar.specs.declared.verdict.Verdict.{Verdict}
 use Rattle.busbar.specs.declared.verdict.Verdict.TheVariants.{Accepted, Refused}
 
 abbrev pub ground_number : Ground → ℕ
-ground_number ground.Figures = 1
-ground_number ground.Heat = 2
-ground_number ground.SubBarStress = 3
-ground_number ground.TotalStress = 4
-ground_number ground.SupportLoad = 5
+ground_number grounds.Figures = 1
+ground_number grounds.Heat = 2
+ground_number grounds.SubBarStress = 3
+ground_number grounds.TotalStress = 4
+ground_number grounds.SupportLoad = 5
 
 -- the figures under a peak I
 
@@ -43,20 +43,20 @@ strength_limit x = 1000 * x.support_strength
 -- a ground's figure and limit under a peak I and a heat Q
 
 abbrev pub figure_of : Ground → Record → ℕ → ℕ → ℕ
-figure_of ground.Figures x I Q = 0
-figure_of ground.Heat x I Q = Q
-figure_of ground.SubBarStress x I Q = (figures_under x I).sub_stress
-figure_of ground.TotalStress x I Q = (figures_under x I).total_stress
-figure_of ground.SupportLoad x I Q = (figures_under x I).support_load
+figure_of grounds.Figures x I Q = 0
+figure_of grounds.Heat x I Q = Q
+figure_of grounds.SubBarStress x I Q = (figures_under x I).sub_stress
+figure_of grounds.TotalStress x I Q = (figures_under x I).total_stress
+figure_of grounds.SupportLoad x I Q = (figures_under x I).support_load
 
 abbrev pub limit_of : Ground → Record → ℕ
-limit_of ground.Figures x = 0
-limit_of ground.Heat x = heat_limit x
-limit_of ground.SubBarStress x = yield_limit x
-limit_of ground.TotalStress x = plastic_limit x
-limit_of ground.SupportLoad x = strength_limit x
+limit_of grounds.Figures x = 0
+limit_of grounds.Heat x = heat_limit x
+limit_of grounds.SubBarStress x = yield_limit x
+limit_of grounds.TotalStress x = plastic_limit x
+limit_of grounds.SupportLoad x = strength_limit x
 
-abbrev pub refused_on : Ground → ℕ → ℕ → Verdict
+abbrev pub refused_on : (ground : Ground) (figure limit : ℕ) → Verdict
 refused_on g figure limit = Refused (record { ground = g; figure = figure; limit = limit })
 
 -- on a ground: the next one where the figure is within the limit, else refused here
@@ -66,8 +66,8 @@ then_on x I Q g next =
 
 abbrev pub verdict_under : Record → ℕ → ℕ → Verdict
 verdict_under x I Q =
-    then_on x I Q ground.Heat
-    (then_on x I Q ground.SubBarStress (then_on x I Q ground.TotalStress (then_on x I Q ground.SupportLoad Accepted)))
+    then_on x I Q grounds.Heat
+    (then_on x I Q grounds.SubBarStress (then_on x I Q grounds.TotalStress (then_on x I Q grounds.SupportLoad Accepted)))
 
 -- what a feeder told, where it lies in a feeder's ranges; anything else counts as nothing
 abbrev pub figures_told : Option (ℕ × ℕ) → Option (ℕ × ℕ)
@@ -75,7 +75,7 @@ figures_told None = None
 figures_told (Some t) = cond (within 1 300000 t.0 && within 1 200000000000000 t.1) (Some t) None
 
 abbrev pub verdict_on : Record → Option (ℕ × ℕ) → Verdict
-verdict_on x None = refused_on ground.Figures 0 0
+verdict_on x None = refused_on grounds.Figures 0 0
 verdict_on x (Some t) = verdict_under x t.0 t.1
 
 unfoldable pub verdict : Record → Option (ℕ × ℕ) → Verdict

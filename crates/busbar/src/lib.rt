@@ -1,4 +1,6 @@
 // The figures of one bar: sections, records and their questions, forces, stresses, support load, heat, and the verdict.
+#![tactic(auto)]
+
 pub mod amount;
 pub mod checked;
 pub mod distance;

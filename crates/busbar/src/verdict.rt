@@ -139,11 +139,11 @@ fn first_failing(bar: &CheckedRecord, peak: Peak, heat: u64) -> Verdict
     Verdict::Accepted
 }
 
-fn refused(ground: Ground, figure: u64, limit: u64) -> Verdict
-    ensures { result ≡ refused_on ground figure limit }
+fn refused(failed: Ground, figure: u64, limit: u64) -> Verdict
+    ensures { result ≡ refused_on failed figure limit }
 {
     Verdict::Refused(Refusal {
-        ground,
+        ground: failed,
         figure,
         limit,
     })

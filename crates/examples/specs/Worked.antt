@@ -8,7 +8,7 @@ use Rattle.busbar.specs.declared.record.FaultKind.TheVariants.{ThreePhase}
 use Rattle.busbar.specs.declared.record.Record.{Record}
 use Rattle.busbar.specs.declared.record.Scheme.TheVariants.{MoreSpans}
 use Rattle.busbar.specs.declared.section.Section.{Section}
-use Rattle.busbar.specs.declared.verdict.Ground.TheVariants as ground
+use Rattle.busbar.specs.declared.verdict.Ground.TheVariants as grounds
 use Rattle.busbar.specs.declared.verdict.Verdict.TheVariants.{Accepted}
 use Rattle.feeder.specs.Fuse.{fuse_tells, in_order}
 use Rattle.feeder.specs.Grid.{grid_sizes, grid_tells}
@@ -121,17 +121,17 @@ pub record WorkedBoards : Type 0 where
   pub passes_at_48 : passes (main_bar 48 3_000) ≡ true
   pub passes_at_47 : passes (main_bar 47 3_000) ≡ true
   pub holds_at_48 : verdict (main_bar 48 3_000) fault ≡ Accepted
-  pub bends_at_47 : verdict (main_bar 47 3_000) fault ≡ refused_on ground.TotalStress 71_123 70_500
+  pub bends_at_47 : verdict (main_bar 47 3_000) fault ≡ refused_on grounds.TotalStress 71_123 70_500
   -- ground 5: supports of 2,315 N hold, supports of 2,314 N let go
   pub passes_at_2315 : passes (main_bar 120 2_315) ≡ true
   pub passes_at_2314 : passes (main_bar 120 2_314) ≡ true
   pub holds_at_2315 : verdict (main_bar 120 2_315) fault ≡ Accepted
-  pub lets_go_at_2314 : verdict (main_bar 120 2_314) fault ≡ refused_on ground.SupportLoad 2_314_888 2_314_000
+  pub lets_go_at_2314 : verdict (main_bar 120 2_314) fault ≡ refused_on grounds.SupportLoad 2_314_888 2_314_000
   -- ground 2: the bar bears a heat at its limit, and not one more
   pub heat_borne : heat_limit (main_bar 120 3_000) ≡ 3_600_000_000_000
   pub passes_for_heat : passes (main_bar 120 3_000) ≡ true
   pub holds_at_the_heat : verdict (main_bar 120 3_000) (fault_of_heat 3_600_000_000_000) ≡ Accepted
-  pub too_hot_above : verdict (main_bar 120 3_000) (fault_of_heat 3_600_000_000_001) ≡ refused_on ground.Heat 3_600_000_000_001 3_600_000_000_000
+  pub too_hot_above : verdict (main_bar 120 3_000) (fault_of_heat 3_600_000_000_001) ≡ refused_on grounds.Heat 3_600_000_000_001 3_600_000_000_000
   -- the stack of two: G on a sub-bar in 10 µN, the stresses in kPa
   pub stack_made : stack_section 2 60 10 500 ≡ Ok two_60_by_10
   pub stack_passes : passes (stacked_bar 120 3_000) ≡ true

@@ -1,4 +1,6 @@
 // Worked examples of the library: a statement about its definitions, and tests.
+#![tactic(auto)]
+
 #[cfg(test)]
 mod bars;
 #[cfg(test)]

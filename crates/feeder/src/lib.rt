@@ -1,4 +1,6 @@
 // Feeders: what a fault current brings to the board, for any pile of grid, motors and fuses.
+#![tactic(auto)]
+
 pub mod curve;
 pub mod fuse;
 pub mod grid;

@@ -1,4 +1,6 @@
 // A rink's compressor board, as it was tendered and after the late edits, to its release.
+#![tactic(auto)]
+
 mod answers;
 mod bars;
 mod list;

@@ -1,4 +1,6 @@
 // Worked runs of calls on one board and on two: direct calls with the law, and lists as tests.
+#![tactic(auto)]
+
 #[cfg(test)]
 mod bars;
 #[cfg(test)]

@@ -1,4 +1,6 @@
 // The board sheet: positions, slips, every call, and its stored form.
+#![tactic(auto)]
+
 pub mod asks;
 pub mod calls;
 pub mod counts;

@@ -1,3 +1,5 @@
 // The stored form, block by block.
+#![tactic(auto)]
+
 pub mod block;
 pub mod read;

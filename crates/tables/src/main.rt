@@ -1,4 +1,6 @@
 // Compares what the library makes with tables of figures that were worked out independently of it.
+#![tactic(auto)]
+
 mod feeders;
 mod row;
 mod sections;

@@ -3,4 +3,4 @@ use Rattle.busbar.proofs.rounding.rounded_up.Goals as goal
 
 pub returns : goal.returns
 unfolding up
-returns c = c.div-ceil.ensures
+returns c = c.div_ceil.ensures

@@ -3,12 +3,12 @@ use Rattle.busbar.proofs.Ranges.{ranges}
 use Rattle.busbar.proofs.Bounds.{bending_share_most, stress_factor_most, stress_top}
 use Rattle.busbar.proofs.checked.CheckedRecord.main_stress.Goals as goal
 
-pub overflow-mul-share-3 : goal.overflow-mul-share-3
-overflow-mul-share-3 c =
+pub overflow_mul-share-3 : goal.overflow_mul-share-3
+overflow_mul-share-3 c =
     let inside = ranges c.args.self.now.bar c.args.self.now.passed in
     let v = stress_factor_most c.args.self.now.bar.reclosing in
     let b = bending_share_most c.args.self.now.bar.scheme in
     search (rules, stress_top)
 
-pub rounded-up-requires : goal.rounded-up-requires
-rounded-up-requires c = let inside = ranges c.args.self.now.bar c.args.self.now.passed in search rules
+pub rounded_up-requires : goal.rounded_up-requires
+rounded_up-requires c = let inside = ranges c.args.self.now.bar c.args.self.now.passed in search rules

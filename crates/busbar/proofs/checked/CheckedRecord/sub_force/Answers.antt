@@ -4,28 +4,28 @@ use Rattle.busbar.proofs.Bounds.{sub_top, shared_bottom, shared_bottom_most, sub
 use Rattle.busbar.proofs.checked.CheckedRecord.sub_force.Goals as goal
 use Rattle.busbar.proofs.checked.CheckedRecord.sub_force.Goals.{in-None, in-Some}
 
-pub overflow-mul-shared-in-Some : goal.overflow-mul-shared-in-Some
-overflow-mul-shared-in-Some c =
+pub overflow_mul-shared-in-Some : goal.overflow_mul-shared-in-Some
+overflow_mul-shared-in-Some c =
     let inside = bars_in c.args.self.now.bar c.in-Some.bars c.args.self.now.passed c.in-Some.is in
     search (rules, sub_top)
 
-pub overflow-mul-count-in-Some : goal.overflow-mul-count-in-Some
-overflow-mul-count-in-Some c =
+pub overflow_mul-count-in-Some : goal.overflow_mul-count-in-Some
+overflow_mul-count-in-Some c =
     let inside = bars_in c.args.self.now.bar c.in-Some.bars c.args.self.now.passed c.in-Some.is in
     search (rules, shared_bottom_most)
 
-pub overflow-mul-count-in-Some-2 : goal.overflow-mul-count-in-Some-2
-overflow-mul-count-in-Some-2 c =
+pub overflow_mul-count-in-Some-2 : goal.overflow_mul-count-in-Some-2
+overflow_mul-count-in-Some-2 c =
     let inside = bars_in c.args.self.now.bar c.in-Some.bars c.args.self.now.passed c.in-Some.is in
     search (rules, shared_bottom_most)
 
-pub rounded-up-requires : goal.rounded-up-requires
-rounded-up-requires c =
+pub rounded_up-requires : goal.rounded_up-requires
+rounded_up-requires c =
     let inside = bars_in c.args.self.now.bar c.in-Some.bars c.args.self.now.passed c.in-Some.is in
     search (rules, shared_bottom)
 
-pub invariant-of-result : goal.invariant-of-result
-invariant-of-result c =
+pub invariant_of-result : goal.invariant_of-result
+invariant_of-result c =
     elim c.match-self.branch [
       | in-None w ↦ search rules
       | in-Some w ↦

@@ -3,13 +3,13 @@ use Rattle.busbar.proofs.Ranges.{bars_in}
 use Rattle.busbar.proofs.Bounds.{bent_top, stress_factor_most}
 use Rattle.busbar.proofs.checked.CheckedRecord.sub_stress.Goals as goal
 
-pub overflow-mul-bent-in-Some : goal.overflow-mul-bent-in-Some
-overflow-mul-bent-in-Some c =
+pub overflow_mul-bent-in-Some : goal.overflow_mul-bent-in-Some
+overflow_mul-bent-in-Some c =
     let inside = bars_in c.args.self.now.bar c.in-Some.bars c.args.self.now.passed c.in-Some.is in
     let v = stress_factor_most c.args.self.now.bar.reclosing in
     search (rules, bent_top)
 
-pub rounded-up-requires : goal.rounded-up-requires
-rounded-up-requires c =
+pub rounded_up-requires : goal.rounded_up-requires
+rounded_up-requires c =
     let inside = bars_in c.args.self.now.bar c.in-Some.bars c.args.self.now.passed c.in-Some.is in
     search rules

@@ -1,5 +1,5 @@
 -- How large the figures and their products can come, so that each fits 64 bits.
-use Rattle.std.proofs.Common.{ℕ, ◌+◌, ◌*◌, ◌<◌, ◌≤◌, Bool, true, false, Some, None, Option, mul-le-mul, arith, lit≤}
+use Rattle.std.proofs.Common.{ℕ, ◌*◌, ◌≤◌, Bool, true, false, Some, None, Option, mul-le-mul, arith, lit≤}
 use Rattle.busbar.specs.Factors.{support_share, bending_share, phase_factor, load_factor, stress_factor}
 use Rattle.busbar.specs.Figures.{current_force, span_force, sub_bar_force, main_stress_of, sub_bar_stress, rated_current}
 use Rattle.busbar.specs.declared.record.FaultKind.{FaultKind}
@@ -8,7 +8,7 @@ use Rattle.busbar.specs.declared.record.Record.{Record}
 use Rattle.busbar.specs.declared.record.Scheme.{Scheme}
 use Rattle.busbar.specs.declared.record.Scheme.TheVariants.{BothSimple, FixedAndSimple, BothFixed, TwoSpans, MoreSpans}
 use Rattle.busbar.specs.declared.section.SubBars.{SubBars}
-use Rattle.busbar.proofs.Ranges.{Ranges, In, SubBarsIn}
+use Rattle.busbar.proofs.Ranges.{Ranges, SubBarsIn}
 use Rattle.busbar.proofs.Rounds.{up_le}
 
 -- the factors

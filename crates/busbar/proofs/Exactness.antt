@@ -1,18 +1,15 @@
 -- A verdict says what the exact inequalities say: accepted holds, refused fails with the limit cut by a thousandth.
-use Rattle.std.proofs.Common.{◌≡◌, ℕ, ◌+◌, ◌*◌, ◌/◌, ◌<◌, ◌≤◌, Bool, true, false, Some, None, Option, refl, mul-le-mul_right, mul-le-mul, mul-pos, arith, lit≤}
+use Rattle.std.proofs.Common.{◌≡◌, ℕ, ◌+◌, ◌*◌, ◌<◌, ◌≤◌, true, Some, None, Option, refl, mul-le-mul_right, mul-le-mul, mul-pos, arith, lit≤}
 use Rattle.std.proofs.lemmas.Bool.{cond_both, leb-true, leb-false}
-use Rattle.busbar.specs.Factors.{support_share, bending_share, phase_factor, load_factor, stress_factor}
-use Rattle.busbar.specs.Figures.{current_force, span_force, sub_bar_force, sub_force, main_stress_of, sub_bar_stress, sub_stress_of, support_load_of, rated_current}
+use Rattle.busbar.specs.Factors.{phase_factor}
+use Rattle.busbar.specs.Figures.{span_force, sub_bar_force, sub_force, main_stress_of, sub_bar_stress, sub_stress_of, support_load_of, rated_current}
 use Rattle.busbar.specs.Record.{passes}
 use Rattle.busbar.specs.Verdict.{figures_under, heat_limit, plastic_limit, verdict_under, verdict_on, figures_told, verdict}
-use Rattle.busbar.specs.Exact.{Fraction, ◌÷◌, ◌⊗◌, ◌≼◌, exact_force, exact_main_stress, exact_load, exact_sub_bar_stress, exact_sub_stress, exact_plastic_limit, exact_strength_limit, Holds, whole, cut, Bottoms, ExactUnder, ExactOn, Exact}
-use Rattle.busbar.specs.declared.record.FaultKind.{FaultKind}
-use Rattle.busbar.specs.declared.record.FaultKind.TheVariants.{ThreePhase, TwoLine}
+use Rattle.busbar.specs.Exact.{◌÷◌, exact_force, exact_main_stress, exact_load, exact_sub_bar_stress, exact_sub_stress, exact_plastic_limit, exact_strength_limit, Holds, whole, cut, Bottoms, ExactUnder, ExactOn, Exact}
 use Rattle.busbar.specs.declared.record.Record.{Record}
 use Rattle.busbar.specs.declared.section.SubBars.{SubBars}
 use Rattle.busbar.specs.declared.verdict.Ground.TheVariants as grounds
-use Rattle.busbar.specs.declared.verdict.Verdict.TheVariants.{Accepted, Refused}
-use Rattle.busbar.proofs.Ranges.{Ranges, In, SubBarsIn, ranges}
+use Rattle.busbar.proofs.Ranges.{Ranges, SubBarsIn, ranges}
 use Rattle.busbar.proofs.Bounds.{bending_share_most, stress_factor_most, support_share_most, load_factor_most, shared_bottom}
 use Rattle.busbar.proofs.Fractions.{Near, near_up, near_next}
 use Rattle.busbar.proofs.Margins.{NearPart, sum_holds, sum_fails}

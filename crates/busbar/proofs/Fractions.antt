@@ -1,9 +1,9 @@
 -- Rounded figures beside exact fractions: how near they are, and the root of three.
-use Rattle.std.proofs.Common.{◌≡◌, ℕ, ◌+◌, ◌-◌, ◌*◌, ◌<◌, ◌≤◌, ap, ⊎_elim, mul-le-mul_right, mul-le-mul, mul-le-mul_left, mul-pos, arith}
+use Rattle.std.proofs.Common.{◌≡◌, ℕ, ◌+◌, ◌-◌, ◌*◌, ◌<◌, ◌≤◌, ap, ⊎_elim, mul-le-mul_right, mul-le-mul, arith}
 use Rattle.std.proofs.lemmas.Bool.{cases_lt}
 use Rattle.busbar.specs.Factors.{phase_factor}
 use Rattle.busbar.specs.Rounding.{up}
-use Rattle.busbar.specs.Exact.{Fraction, ◌÷◌, ◌⊗◌, ◌⊕◌, ◌⊖◌, ◌≼◌, Within}
+use Rattle.busbar.specs.Exact.{Fraction, ◌÷◌, ◌⊗◌, ◌≼◌, Within}
 use Rattle.busbar.specs.declared.record.FaultKind.{FaultKind}
 use Rattle.busbar.specs.declared.record.FaultKind.TheVariants.{ThreePhase, TwoLine}
 use Rattle.busbar.proofs.Rounds.{le_up, up_lt}

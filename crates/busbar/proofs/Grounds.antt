@@ -1,13 +1,13 @@
 -- The chain of grounds, one step at a time.
-use Rattle.std.proofs.Common.{◌≡◌, ℕ, ◌*◌, ◌<◌, ◌≤◌, cond, leb, sym, refl, ap, ◌∙◌, subst}
+use Rattle.std.proofs.Common.{◌≡◌, ℕ, ◌<◌, ◌≤◌, cond, leb, sym, ◌∙◌}
 use Rattle.std.proofs.lemmas.Bool.{cond-true, cond-false, le-leb, lt-leb}
-use Rattle.busbar.specs.Verdict.{refused_on, then_on, figure_of, limit_of, figures_under, heat_limit, yield_limit, plastic_limit, strength_limit, verdict_under}
+use Rattle.busbar.specs.Verdict.{refused_on, then_on, figures_under, heat_limit, yield_limit, plastic_limit, strength_limit, verdict_under}
 use Rattle.busbar.specs.declared.record.Record.{Record}
 use Rattle.busbar.specs.declared.verdict.Figures.{Figures}
 use Rattle.busbar.specs.declared.verdict.Ground.{Ground}
 use Rattle.busbar.specs.declared.verdict.Ground.TheVariants as grounds
 use Rattle.busbar.specs.declared.verdict.Verdict.{Verdict}
-use Rattle.busbar.specs.declared.verdict.Verdict.TheVariants.{Accepted, Refused}
+use Rattle.busbar.specs.declared.verdict.Verdict.TheVariants.{Accepted}
 
 -- a figure within its limit leaves the verdict to the next ground
 pub goes_on : (g : Ground) (next : Verdict) (f l : ℕ) → f ≤ l → cond (leb f l) next (refused_on g f l) ≡ next

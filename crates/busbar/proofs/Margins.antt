@@ -1,10 +1,10 @@
 -- A rounded figure within its limit holds exactly; past its limit it fails exactly with the limit cut by a thousandth.
-use Rattle.std.proofs.Common.{◌≡◌, ℕ, ◌+◌, ◌-◌, ◌*◌, ◌/◌, ◌<◌, ◌≤◌, ap, mul-le-mul_right, mul-le-mul, mul-le-mul_left, mul-pos, arith, lit≤}
+use Rattle.std.proofs.Common.{ℕ, ◌+◌, ◌*◌, ◌<◌, ◌≤◌, mul-le-mul_right, mul-pos, arith, lit≤}
 use Rattle.busbar.specs.Factors.{phase_factor}
-use Rattle.busbar.specs.Exact.{Fraction, ◌÷◌, ◌⊗◌, ◌≼◌, Within, whole, cut}
+use Rattle.busbar.specs.Exact.{Fraction, ◌⊗◌, Within, whole, cut}
 use Rattle.busbar.specs.declared.record.FaultKind.{FaultKind}
 use Rattle.busbar.specs.declared.record.FaultKind.TheVariants.{ThreePhase, TwoLine}
-use Rattle.busbar.proofs.Fractions.{Near, Linear, factor_below, within_from, within_gives}
+use Rattle.busbar.proofs.Fractions.{factor_below, within_from, within_gives}
 
 -- m is near c millionths of p: at least that, and at most e more
 pub record NearPart (m c : ℕ) (p : Fraction) (e : ℕ) : Type 0 where

@@ -1,8 +1,8 @@
 -- What a record's yeses say of its numbers.
-use Rattle.std.proofs.Common.{◌≡◌, ℕ, ◌≤◌, Bool, true, false, not, ◌&&◌, List, [], ◌∷◌, is_some, Some, None, Option, refl, subst}
+use Rattle.std.proofs.Common.{◌≡◌, ℕ, ◌≤◌, Bool, true, false, not, List, [], ◌∷◌, is_some, Some, None, Option, refl, subst}
 use Rattle.std.proofs.lemmas.Bool.{and_parts, leb-true, both_ways}
 use Rattle.busbar.specs.Rounding.{within}
-use Rattle.busbar.specs.Record.{Answered, first_no, record_no, record_questions, passes, sub_bars_inside, factor_round, spacing_fits_in}
+use Rattle.busbar.specs.Record.{Answered, first_no, record_questions, passes, sub_bars_inside, factor_round, spacing_fits_in}
 use Rattle.busbar.specs.declared.question.Question.{Question}
 use Rattle.busbar.specs.declared.record.Record.{Record}
 use Rattle.busbar.specs.declared.section.SubBars.{SubBars}

@@ -1,12 +1,11 @@
 -- A duty that is no easier gets no softer verdict.
-use Rattle.std.proofs.Common.{◌≡◌, ℕ, ◌+◌, ◌*◌, ◌/◌, ◌<◌, ◌≤◌, Bool, true, false, cond, leb, Some, None, Option, sym, refl, ap, subst, ⊎_elim, le_refl, mul-le-mul_right, mul-le-mul, mul-le-mul_left, arith, lit≤}
-use Rattle.std.proofs.lemmas.Bool.{cond_both, leb-true, leb-false, both_ways, le-leb, cond-true}
-use Rattle.busbar.specs.Rounding.{up}
+use Rattle.std.proofs.Common.{◌≡◌, ℕ, ◌*◌, ◌≤◌, Bool, true, false, cond, leb, Some, None, Option, sym, refl, ap, subst, le_refl, mul-le-mul, mul-le-mul_left, arith, lit≤}
+use Rattle.std.proofs.lemmas.Bool.{cond_both, leb-true, both_ways, le-leb, cond-true}
 use Rattle.busbar.specs.Factors.{support_share, bending_share, phase_factor, load_factor, stress_factor}
 use Rattle.busbar.specs.Figures.{current_force, span_force, sub_bar_force, sub_force, main_stress_of, sub_bar_stress, sub_stress_of, support_load_of, rated_current}
 use Rattle.busbar.specs.Record.{passes}
 use Rattle.busbar.specs.Verdict.{ground_number, figures_under, heat_limit, plastic_limit, figure_of, limit_of, refused_on, then_on, verdict_under, verdict_on, figures_told, verdict}
-use Rattle.busbar.specs.Harder.{NoEasier, NoEasierBars, NoEasierSubBars, NoSmaller, NoSofter, NoSofterThanEasier}
+use Rattle.busbar.specs.Harder.{NoEasier, NoEasierSubBars, NoSmaller, NoSofter, NoSofterThanEasier}
 use Rattle.busbar.specs.declared.record.Record.{Record}
 use Rattle.busbar.specs.declared.section.SubBars.{SubBars}
 use Rattle.busbar.specs.declared.verdict.Ground.{Ground}

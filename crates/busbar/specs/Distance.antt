@@ -1,5 +1,5 @@
 -- The effective distance e between the bars of a stack, by count, thickness and height.
-use Rattle.std.specs.Prelude.{ℕ, Bool, cond, ◌&&◌, List, [], ◌∷◌, ◌==◌, slice_index}
+use Rattle.std.specs.Prelude.{ℕ, cond, ◌&&◌, List, [], ◌∷◌, ◌==◌, slice_index}
 
 -- the place of a height among the columns, 8 for any other height
 abbrev pub column_of : ℕ → ℕ

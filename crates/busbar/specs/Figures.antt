@@ -1,5 +1,5 @@
 -- The figures of one bar under a peak I, each with its rounding.
-use Rattle.std.specs.Prelude.{ℕ, ◌*◌, ◌/◌, Bool, Some, None, Option}
+use Rattle.std.specs.Prelude.{ℕ, ◌*◌, ◌/◌, Some, None, Option}
 use Rattle.busbar.specs.Rounding.{up}
 use Rattle.busbar.specs.Factors.{support_share, bending_share, phase_factor, load_factor, stress_factor}
 use Rattle.busbar.specs.declared.record.FaultKind.{FaultKind}

@@ -4,7 +4,6 @@ use Rattle.busbar.specs.Record.{passes}
 use Rattle.busbar.specs.Verdict.{ground_number, figures_told, verdict}
 use Rattle.busbar.specs.declared.record.Record.{Record}
 use Rattle.busbar.specs.declared.section.SubBars.{SubBars}
-use Rattle.busbar.specs.declared.verdict.Refusal.{Refusal}
 use Rattle.busbar.specs.declared.verdict.Verdict.{Verdict}
 use Rattle.busbar.specs.declared.verdict.Verdict.TheVariants.{Accepted, Refused}
 

@@ -1,11 +1,10 @@
 -- The sections: bar, rod, tube and stack, with their size limits and roundings.
-use Rattle.std.specs.Prelude.{◌≡◌, ℕ, ◌+◌, ◌-◌, ◌*◌, ◌/◌, Bool, true, false, cond, not, ◌&&◌, Some, None, Ok, Err, Option, Result, ◌==◌, nat_le}
+use Rattle.std.specs.Prelude.{ℕ, ◌+◌, ◌-◌, ◌*◌, ◌/◌, Bool, true, false, cond, not, ◌&&◌, Some, None, Ok, Err, Result, ◌==◌, nat_le}
 use Rattle.busbar.specs.Distance.{stack_distance}
 use Rattle.busbar.specs.Rounding.{within}
 use Rattle.busbar.specs.declared.question.Question.{Question}
 use Rattle.busbar.specs.declared.question.Question.TheVariants as q
 use Rattle.busbar.specs.declared.section.Section.{Section}
-use Rattle.busbar.specs.declared.section.SubBars.{SubBars}
 
 -- a section where the sizes are right, else the number of the no
 abbrev pub made_if : Bool → Question → Section → Result Section Question

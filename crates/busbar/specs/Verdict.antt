@@ -1,5 +1,5 @@
 -- The verdict: the first ground that fails, with figure and limit.
-use Rattle.std.specs.Prelude.{ℕ, ◌+◌, ◌*◌, ◌/◌, Bool, cond, ◌&&◌, Some, None, Option, nat_le}
+use Rattle.std.specs.Prelude.{ℕ, ◌+◌, ◌*◌, ◌/◌, cond, ◌&&◌, Some, None, Option, nat_le}
 use Rattle.busbar.specs.Rounding.{within}
 use Rattle.busbar.specs.Figures.{span_force, sub_force, main_stress_of, sub_stress_of, support_load_of, rated_current}
 use Rattle.busbar.specs.declared.record.Record.{Record}

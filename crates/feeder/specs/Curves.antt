@@ -1,11 +1,11 @@
 -- A fuse keeps the law, whatever lawful feeder is below.
-use Rattle.std.specs.Prelude.{◌≡◌, ℕ, suc, ◌+◌, ◌-◌, ◌<◌, ◌≤◌, min, Bool, true, false, cond, ◌&&◌, leb, List, [], ◌∷◌, ◌++◌, length, get_or, drop, Some, None, Option, nat_le, nat_lt, slice_index_or, refl}
-use Rattle.std.proofs.Common.{sym, ap, subst, ◌∙◌, le_refl, le_trans, arith}
+use Rattle.std.specs.Prelude.{◌≡◌, ℕ, suc, ◌+◌, ◌-◌, ◌<◌, ◌≤◌, Bool, true, false, ◌&&◌, leb, List, [], ◌∷◌, ◌++◌, length, get_or, drop, Some, None, Option, nat_le, nat_lt, slice_index_or, refl}
+use Rattle.std.proofs.Common.{sym, ap, subst, ◌∙◌, le_refl, arith}
 use Rattle.std.proofs.lemmas.List.{at_drop_more, at_drop_all}
 use Rattle.std.proofs.lemmas.Bool.{and_parts, leb-true, leb-false, le-leb, lt-leb, cond-true, cond-false, cond_both, and_from}
 use Rattle.busbar.specs.Rounding.{within}
 use Rattle.busbar.specs.Harder.{NoSmaller}
-use Rattle.busbar.proofs.Ranges.{In, inside_of}
+use Rattle.busbar.proofs.Ranges.{inside_of}
 use Rattle.feeder.specs.Figures.{nothing_largest}
 use Rattle.feeder.specs.Laws.{Told, Lawful, InRanges, level_inside}
 use Rattle.feeder.specs.Fuse.{point_inside, may_follow, follows_on, in_order, counting, smaller_of, fuse_tells, last_before, takes}

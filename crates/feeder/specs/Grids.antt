@@ -1,14 +1,13 @@
 -- A grid keeps the law.
-use Rattle.std.specs.Prelude.{◌≡◌, ℕ, ◌+◌, ◌*◌, ◌<◌, ◌≤◌, Bool, true, false, cond, leb, Some, None, refl}
-use Rattle.std.proofs.Common.{sym, ap, subst, mul-le-mul, le_refl, arith, lit≤}
+use Rattle.std.specs.Prelude.{ℕ, ◌*◌, ◌≤◌, Some}
+use Rattle.std.proofs.Common.{sym, subst, mul-le-mul, le_refl, arith, lit≤}
 use Rattle.std.proofs.lemmas.Bool.{cond-true, cond-false, cond_both}
-use Rattle.busbar.specs.Rounding.{up, within}
 use Rattle.busbar.specs.Harder.{NoSmaller}
 use Rattle.busbar.proofs.Ranges.{In, inside_of}
 use Rattle.busbar.proofs.Rounds.{le_up, up_le, up_mono}
 use Rattle.feeder.specs.Figures.{nothing_largest, level_below}
-use Rattle.feeder.specs.Laws.{Told, Lawful, InRanges, level_inside}
-use Rattle.feeder.specs.Grid.{grid_sizes, grid_peak, grid_heat, grid_tells}
+use Rattle.feeder.specs.Laws.{Lawful, InRanges, level_inside}
+use Rattle.feeder.specs.Grid.{grid_peak, grid_heat, grid_tells}
 
 pub record Sizes (kappa s T : ℕ) : Type 0 where
   pub kappa_in : In 1000 2000 kappa

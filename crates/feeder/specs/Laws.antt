@@ -1,5 +1,5 @@
 -- What a feeder's meaning obeys.
-use Rattle.std.specs.Prelude.{◌≡◌, ℕ, ◌≤◌, Bool, true, false, cond, ◌&&◌, Some, None, Option, nat_le}
+use Rattle.std.specs.Prelude.{◌≡◌, ℕ, ◌≤◌, Bool, false, cond, ◌&&◌, Some, None, Option, nat_le}
 use Rattle.busbar.specs.Rounding.{within}
 use Rattle.busbar.specs.Harder.{NoSmaller}
 

@@ -1,6 +1,5 @@
 -- Blocks: their check, and that what is written byte by byte is the block.
-use Rattle.std.proofs.Common.{◌≡◌, ℕ, suc, ◌+◌, ◌-◌, ◌*◌, ◌/◌, ◌%◌, ◌<◌, ◌≤◌, List, [], ◌∷◌, ◌++◌, map, length, get_or, take, drop, set, sym, refl, ap, ◌∙◌, mul-le-mul, arith, lit≤, length-drop, take-append-drop, length-take, get_or-take}
-use Rattle.std.specs.List.{range_with_len}
+use Rattle.std.proofs.Common.{◌≡◌, ℕ, ◌+◌, ◌*◌, ◌/◌, ◌%◌, ◌<◌, ◌≤◌, List, [], ◌∷◌, ◌++◌, length, get_or, take, drop, set, sym, refl, ap, ◌∙◌, mul-le-mul, arith, lit≤, length-drop, take-append-drop, get_or-take}
 use Rattle.std.proofs.lemmas.List.{at_drop_more, at_drop_all, set-append_right, length-take-le}
 use Rattle.std.proofs.lemmas.List.FromFn.{fill_by_all}
 use Rattle.stored.specs.Block.{weighted, check_of, body_of, block_of}

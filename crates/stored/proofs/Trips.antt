@@ -1,7 +1,6 @@
 -- What a written block is read back as.
-use Rattle.std.proofs.Common.{◌≡◌, ℕ, ◌+◌, ◌*◌, ◌/◌, ◌%◌, ◌<◌, ◌≤◌, Bool, true, false, cond, ◌&&◌, eqb, ltb, leb, List, [], ◌∷◌, ◌++◌, map, length, get_or, take, drop, Some, None, Ok, Err, Option, Result, sym, refl, ap, ◌∙◌, arith}
-use Rattle.std.specs.List.{range_with_len}
-use Rattle.std.proofs.lemmas.List.{take_at, get_or_at}
+use Rattle.std.proofs.Common.{◌≡◌, ℕ, ◌+◌, ◌*◌, ◌/◌, ◌%◌, ◌<◌, ◌≤◌, Bool, true, false, cond, ◌&&◌, eqb, leb, List, [], ◌∷◌, take, drop, Some, None, Ok, Err, Option, sym, refl, ap, ◌∙◌, arith}
+use Rattle.std.proofs.lemmas.List.{take_at}
 use Rattle.std.proofs.lemmas.List.FromFn.{length-map-range_with_len}
 use Rattle.std.proofs.lemmas.Bool.{cond-true, eq-eqb, ne_eqb, and_from, le-leb, lt-ltb}
 use Rattle.busbar.specs.Rounding.{within}
@@ -14,8 +13,8 @@ use Rattle.busbar.specs.declared.record.Record.{Record}
 use Rattle.busbar.specs.declared.record.Scheme.{Scheme}
 use Rattle.busbar.specs.declared.record.Scheme.TheVariants.{BothSimple, FixedAndSimple, BothFixed, TwoSpans, MoreSpans}
 use Rattle.busbar.specs.declared.section.SubBars.{SubBars}
-use Rattle.stored.specs.Block.{byte_of_32, byte_of_16, check_of, body_of, block_of, header_byte, position_byte, bars_of, scheme_number, kind_flag}
-use Rattle.stored.specs.Read.{number_at, number_at_16, check_right, header_layout, header_level, read_header, zeros, line_layout, scheme_from, kind_from, bars_from, record_from, read_line}
+use Rattle.stored.specs.Block.{check_of, body_of, block_of, header_byte, position_byte, bars_of, scheme_number, kind_flag}
+use Rattle.stored.specs.Read.{check_right, header_layout, read_header, zeros, line_layout, scheme_from, kind_from, bars_from, record_from, read_line}
 
 -- four bytes make their number again
 pub four_bytes : (x : ℕ) → x / 16777216 * 16777216 + x / 65536 % 256 * 65536 + x / 256 % 256 * 256 + x % 256 ≡ x

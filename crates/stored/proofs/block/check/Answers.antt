@@ -5,4 +5,4 @@ use Rattle.stored.proofs.block.check.Goals as goal
 
 pub returns-then-bytes-lt510 : goal.returns-then-bytes-lt510
 returns-then-bytes-lt510 c =
-    c.sum-of.ensures ∙ ap check_of (sym (take_all 510 c.args.bytes.now (omega arith)))
+    c.sum_of.ensures ∙ ap check_of (sym (take_all 510 c.args.bytes.now (omega arith)))

@@ -8,4 +8,4 @@ loop-i-preserved g c = search (rules, fill_by_more)
 
 pub returns : goal.returns
 returns g c =
-    sealed c.loop-i.part (g.B.Block.bytes c.args.block.now) c.sum-of-check.result (c.loop-i.auto.part ∙ c.requires) (λ k h. c.loop-i.invariant k (omega arith)) c.sum-of-check.ensures
+    sealed c.loop-i.part (g.B.Block.bytes c.args.block.now) c.sum_of-check.result (c.loop-i.auto.part ∙ c.requires) (λ k h. c.loop-i.invariant k (omega arith)) c.sum_of-check.ensures

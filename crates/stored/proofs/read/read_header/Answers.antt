@@ -6,9 +6,9 @@ pub returns-then-not-checked : goal.returns-then-not-checked
 unfolding read_header
 returns-then-not-checked c = search rules
 
-pub returns-then-not-header-laid-out : goal.returns-then-not-header-laid-out
+pub returns-then-not-header_laid_out : goal.returns-then-not-header_laid_out
 unfolding read_header
-returns-then-not-header-laid-out c = search rules
+returns-then-not-header_laid_out c = search rules
 
 pub returns : goal.returns
 unfolding read_header

@@ -5,4 +5,4 @@ use Rattle.stored.proofs.read.zero_from.Goals as goal
 
 pub returns-then-part-lt510 : goal.returns-then-part-lt510
 returns-then-part-lt510 c =
-    c.all-zero.ensures ∙ ap (λ l. zeros (drop c.args.from l)) (sym (take_all 510 c.args.part.now (omega arith)))
+    c.all_zero.ensures ∙ ap (λ l. zeros (drop c.args.from l)) (sym (take_all 510 c.args.part.now (omega arith)))

@@ -1,4 +1,4 @@
-use Rattle.std.proofs.Common.{arith, rules}
+use Rattle.std.proofs.Common.{rules}
 use Rattle.busbar.proofs.Ranges.{ranges}
 use Rattle.busbar.proofs.Bounds.{current_force_most, span_top, span_force_most}
 use Rattle.busbar.proofs.checked.CheckedRecord.span_force.Goals as goal

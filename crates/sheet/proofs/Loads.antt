@@ -1,5 +1,5 @@
 -- Reading the blocks of a stored sheet one after the other.
-use Rattle.std.proofs.Common.{◌≡◌, ℕ, suc, ◌+◌, ◌-◌, ◌*◌, ◌<◌, ◌≤◌, List, map, length, take, drop, set, replicate, Ok, Err, Result, sym, refl, ap, ◌∙◌, subst, arith, length-set}
+use Rattle.std.proofs.Common.{◌≡◌, ℕ, suc, ◌+◌, ◌-◌, ◌*◌, ◌<◌, ◌≤◌, List, map, length, take, drop, set, replicate, Err, sym, ap, ◌∙◌, subst, arith, length-set}
 use lib.Seq.{map-set}
 use Rattle.busbar.specs.declared.question.Question.{Question}
 use Rattle.feeder.specs.Laws.{Told}
@@ -7,8 +7,8 @@ use Rattle.stored.specs.Read.{read_line}
 use Rattle.sheet.specs.Plain.{Entry, positions}
 use Rattle.sheet.specs.Position.{entry_of, again}
 use Rattle.sheet.specs.Happened.{entries_of}
-use Rattle.sheet.specs.Stored.{LoadNo, part_of, line_entered, load_next, load_lines, no_at, number_of_line}
-use Rattle.sheet.specs.Loading.{PutAt, LineRead, Filled}
+use Rattle.sheet.specs.Stored.{part_of, line_entered, load_next, load_lines, no_at, number_of_line}
+use Rattle.sheet.specs.Loading.{PutAt, Filled}
 use Rattle.sheet.specs.declared.load.Placed.{Placed}
 use Rattle.sheet.specs.declared.position.Position.{Position}
 use Rattle.sheet.proofs.Tables.{sound_with}

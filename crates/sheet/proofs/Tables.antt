@@ -1,5 +1,5 @@
 -- One position of the table changed, beside the plain sheet.
-use Rattle.std.proofs.Common.{◌≡◌, ℕ, ◌-◌, ◌<◌, ◌≤◌, true, cond, leb, List, [], ◌∷◌, ◌++◌, map, length, get_or, take, drop, set, Ok, Err, Option, Result, sym, refl, ap, ◌∙◌, subst, append-nil, arith}
+use Rattle.std.proofs.Common.{◌≡◌, ℕ, ◌-◌, ◌≤◌, true, leb, List, [], ◌∷◌, ◌++◌, map, length, get_or, take, drop, set, Ok, Err, sym, refl, ap, ◌∙◌, append-nil, arith}
 use lib.Seq.{map-set}
 use Rattle.std.proofs.lemmas.List.{get_or-map, take_all, drop_all}
 use Rattle.std.proofs.lemmas.Bool.{and_from, le-leb, cond-true}

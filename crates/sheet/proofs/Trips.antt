@@ -1,18 +1,17 @@
 -- What a save wrote is loaded back to the same level and positions.
-use Rattle.std.proofs.Common.{◌≡◌, ℕ, suc, ◌+◌, ◌-◌, ◌*◌, ◌/◌, ◌%◌, ◌<◌, ◌≤◌, true, cond, not, ◌&&◌, eqb, leb, List, [], ◌∷◌, ◌++◌, length, take, drop, set, replicate, is_some, Some, None, Ok, Err, Option, Result, sym, refl, ap, ◌∙◌, subst, append_assoc, arith, lit≤, length-append}
+use Rattle.std.proofs.Common.{◌≡◌, ℕ, suc, ◌+◌, ◌-◌, ◌*◌, ◌/◌, ◌%◌, ◌≤◌, true, not, leb, List, [], ◌∷◌, ◌++◌, length, take, drop, set, replicate, is_some, Some, None, Ok, Option, sym, refl, ap, ◌∙◌, append_assoc, arith, lit≤, length-append}
 use Rattle.std.proofs.lemmas.List.{take_at, drop_at, drop-drop, set_at}
 use Rattle.std.proofs.lemmas.Bool.{cond-true, eq-eqb, and_from, le-leb, both_ways}
 use Rattle.busbar.specs.Record.{passes, record_no}
 use Rattle.busbar.specs.declared.question.Question.{Question}
-use Rattle.busbar.specs.declared.record.Record.{Record}
 use Rattle.stored.specs.Block.{block_of, header_byte, position_byte}
 use Rattle.stored.specs.Read.{read_line, read_header}
 use Rattle.stored.specs.declared.read.Stored.{Stored}
 use Rattle.stored.proofs.Trips.{header_trip, line_trip}
 use Rattle.sheet.specs.Plain.{Entry, Plain, positions}
-use Rattle.sheet.specs.Position.{entry_of, entry_of_state}
+use Rattle.sheet.specs.Position.{entry_of_state}
 use Rattle.sheet.specs.Happened.{entries_of}
-use Rattle.sheet.specs.Stored.{stands_one, open_one, standing_in, open_ones, entry_block, position_blocks, stored, part_of, entered, line_entered, load_next, load_lines, load_level, load_of, length_right, with_level, number_of_line, no_at}
+use Rattle.sheet.specs.Stored.{stands_one, standing_in, open_ones, entry_block, position_blocks, stored, part_of, entered, line_entered, load_next, load_lines, load_level, length_right, with_level, number_of_line}
 use Rattle.sheet.specs.Trip.{LoadsAs}
 use Rattle.sheet.specs.declared.position.Position.{Position}
 use Rattle.sheet.specs.declared.position.State.{State}

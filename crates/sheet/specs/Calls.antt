@@ -1,5 +1,5 @@
 -- What each call and each question does to the plain sheet, and what it answers.
-use Rattle.std.specs.Prelude.{◌≡◌, ℕ, suc, ◌+◌, ◌-◌, Bool, true, false, cond, ◌&&◌, List, [], ◌∷◌, length, Ok, Err, Result, ◌==◌, nat_lt, slice_index_or}
+use Rattle.std.specs.Prelude.{ℕ, ◌+◌, ◌-◌, Bool, cond, ◌&&◌, List, [], ◌∷◌, length, Ok, Err, Result, ◌==◌, nat_lt, slice_index_or}
 use Rattle.busbar.specs.Rounding.{within}
 use Rattle.busbar.specs.Verdict.{verdict}
 use Rattle.busbar.specs.declared.question.Question.{Question}

@@ -1,5 +1,5 @@
 -- The plain sheet: the sheet as one would keep it on paper.
-use Rattle.std.specs.Prelude.{◌≡◌, ℕ, ◌-◌, cond, List, replicate, Some, None, Ok, Err, Option, Result, ◌==◌, slice_index_or, slice_set}
+use Rattle.std.specs.Prelude.{ℕ, ◌-◌, cond, List, replicate, Some, None, Ok, Err, Option, Result, ◌==◌, slice_index_or, slice_set}
 use Rattle.busbar.specs.Rounding.{within}
 use Rattle.busbar.specs.Record.{record_no}
 use Rattle.busbar.specs.declared.question.Question.{Question}

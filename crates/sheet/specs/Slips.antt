@@ -1,5 +1,5 @@
 -- Slips: when one fits a sheet.
-use Rattle.std.specs.Prelude.{◌≡◌, ℕ, ◌-◌, ◌≤◌, Bool, true, false, slice_index_or}
+use Rattle.std.specs.Prelude.{◌≡◌, ◌-◌, ◌≤◌, Bool, true, false, slice_index_or}
 use Rattle.sheet.specs.Plain.{Entry, Plain}
 use Rattle.sheet.specs.declared.slip.Slip.{Slip}
 

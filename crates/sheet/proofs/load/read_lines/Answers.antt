@@ -1,4 +1,4 @@
-use Rattle.std.proofs.Common.{Err, sym, refl, ap, ◌∙◌}
+use Rattle.std.proofs.Common.{Err, sym, refl, ◌∙◌}
 use Rattle.sheet.specs.Stored.{no_at}
 use Rattle.sheet.proofs.Loads.{reading_more, reading_stops, reading_all}
 use Rattle.sheet.proofs.load.read_lines.Goals as goal

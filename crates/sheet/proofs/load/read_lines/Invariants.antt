@@ -1,4 +1,3 @@
-use Rattle.std.proofs.Common.{◌≡◌, ◌+◌, ◌-◌, map, length}
 use Rattle.sheet.proofs.Loads.{Reading}
 use Rattle.sheet.proofs.load.read_lines.Given as goal
 

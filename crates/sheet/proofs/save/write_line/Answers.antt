@@ -1,12 +1,12 @@
-use Rattle.std.proofs.Common.{◌≡◌, ◌+◌, ◌≤◌, ◌++◌, length, take, drop, sym, ap, ◌∙◌, arith, take-append-drop, rules}
+use Rattle.std.proofs.Common.{◌+◌, ◌≤◌, ◌++◌, length, take, drop, sym, ap, ◌∙◌, arith, take-append-drop, rules}
 use Rattle.stored.specs.Block.{position_byte}
 use Rattle.sheet.specs.Position.{entry_of_state}
 use Rattle.sheet.specs.Stored.{entry_block}
 use Rattle.sheet.proofs.Stores.{length_block, line_written}
 use Rattle.sheet.proofs.save.write_line.Goals as goal
 
-pub slice-bounds-write-block-end : goal.slice-bounds-write-block-end
-slice-bounds-write-block-end c =
+pub slice_bounds-write_block-end : goal.slice_bounds-write_block-end
+slice_bounds-write_block-end c =
     let is = ap (λ s. length (entry_block c.args.number (entry_of_state s))) c.in-Standing.is in
     let room : c.args.at + 512 ≤ length c.args.buffer.now = omega (arith, is, length_block (position_byte c.args.number c.in-Standing.bar.bar), c.requires) in
     search rules
@@ -37,5 +37,5 @@ returns-in-Standing c =
     let long = length_block (position_byte c.args.number c.in-Standing.bar.bar) in
     record {
       after = omega (arith, ap length is, long);
-      buffer = line_written c.args.buffer.now _ _ c.write-block.new.part c.args.at (omega (arith, ap length is, long, c.requires)) c.write-block.ensures is;
+      buffer = line_written c.args.buffer.now _ _ c.write_block.new.part c.args.at (omega (arith, ap length is, long, c.requires)) c.write_block.ensures is;
     }

@@ -12,9 +12,9 @@ loop-i-preserved g c =
     let i = c.loop-i.i in
     let d = c.index-self-i.result in
     let steps = small_steps (shown_of (get_or table i d).state) in
-    let accepted = ap (λ (n : Counts). n.accepted) c.counted-in-counts.ensures in
-    let refused = ap (λ (n : Counts). n.refused) c.counted-in-counts.ensures in
-    let opened = ap (λ (n : Counts). n.opened) c.counted-in-counts.ensures in (
+    let accepted = ap (λ (n : Counts). n.accepted) c.counted_in-counts.ensures in
+    let refused = ap (λ (n : Counts). n.refused) c.counted_in-counts.ensures in
+    let opened = ap (λ (n : Counts). n.opened) c.counted_in-counts.ensures in (
       count_more accepted_in table i d _ _ inv.0 (omega arith) accepted,
       count_more refused_in table i d _ _ inv.1 (omega arith) refused,
       count_more open_in table i d _ _ inv.2 (omega arith) opened,

@@ -10,7 +10,7 @@ loop-i-preserved g c =
     let told = c.tell-told.result in
     let table = c.loop-i.self.table in
     let was = c.index-self-i.result in
-    let judged = c.judged-again.ensures ∙ ap (again told) (sym c.index-self-i.is) in
+    let judged = c.judged_again.ensures ∙ ap (again told) (sym c.index-self-i.is) in
     let step = map_over_more (again told) c.args.self.now.table table c.loop-i.i was (omega arith) inv.0 c.index-self-i.is in
     (ap (set table c.loop-i.i) judged ∙ step, inv.1, inv.2, inv.3)
 

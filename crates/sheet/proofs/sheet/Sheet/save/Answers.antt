@@ -9,17 +9,17 @@ use Rattle.sheet.proofs.sheet.Sheet.save.Goals as goal
 
 pub returns : goal.returns
 returns g c =
-    let tally = c.tally-of-tally.ensures in
+    let tally = c.tally_of-tally.ensures in
     let sheet = c.args.self.now in
     let p = plain_of sheet in
     let shut = sym tally.opened ∙ c.if-tally-ne0.false in
-    let whole = saved_whole p c.args.buffer.now c.write-block.new.part c.write-lines.new.buffer c.tally-of-tally.result.standing tally.standing (omega arith) c.write-block.ensures c.write-lines.ensures in
+    let whole = saved_whole p c.args.buffer.now c.write_block.new.part c.write_lines.new.buffer c.tally_of-tally.result.standing tally.standing (omega arith) c.write_block.ensures c.write_lines.ensures in
     record {
       happened = record {
         plain = refl;
-        answer = λ sound. saved_is p c.args.buffer.now c.write-lines.new.buffer c.tally-of-tally.result.standing tally.standing shut (omega arith) whole;
+        answer = λ sound. saved_is p c.args.buffer.now c.write_lines.new.buffer c.tally_of-tally.result.standing tally.standing shut (omega arith) whole;
         sound = λ sound. sound;
         same_feeder = refl;
       };
-      loads = subst (LoadsAs p) (sym (saved_front p c.args.buffer.now c.write-lines.new.buffer c.tally-of-tally.result.standing tally.standing whole)) (stored_loads p (length-map sheet.table entry_of ∙ sheet.full) sheet.level_least sheet.level_most (all_passing sheet.table) shut);
+      loads = subst (LoadsAs p) (sym (saved_front p c.args.buffer.now c.write_lines.new.buffer c.tally_of-tally.result.standing tally.standing whole)) (stored_loads p (length-map sheet.table entry_of ∙ sheet.full) sheet.level_least sheet.level_most (all_passing sheet.table) shut);
     }

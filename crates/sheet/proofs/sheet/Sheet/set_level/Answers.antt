@@ -9,8 +9,8 @@ use Rattle.sheet.proofs.sheet.Sheet.set_level.Goals as goal
 
 pub returns : goal.returns
 returns g c =
-    let rejudged = c.judge-again.ensures in
-    let after = c.judge-again.new.self in
+    let rejudged = c.judge_again.ensures in
+    let after = c.judge_again.new.self in
     let sheet = c.args.self.now in
     let inside = level_inside_true c.args.level c.if-level-lt100.false c.if-level-gt100000.false in
     let meaning = g.F.Feeder.meaning in

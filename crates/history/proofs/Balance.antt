@@ -1,16 +1,15 @@
 -- Slips and open positions: what a change of one position does to both.
-use Rattle.std.proofs.Common.{◌≡◌, ℕ, zero, suc, ◌+◌, ◌-◌, ◌*◌, ◌<◌, ◌≤◌, Bool, true, false, cond, ◌&&◌, eqb, leb, ◌≢◌, List, [], ◌∷◌, ◌++◌, length, get_or, set, Some, None, Ok, Err, Option, Result, sym, refl, ap, ◌∙◌, subst, ⊎_elim, arith, get_or-set_other, get_or-set_same}
-use Rattle.std.proofs.lemmas.Bool.{and_cases, and_from, and_left, and_parts, both_ways, cases_Bool, cond-false, cond-true, eq-eqb, eqb-false, eqb-true, le-leb, leb-true, or_cases}
+use Rattle.std.proofs.Common.{◌≡◌, ℕ, ◌+◌, ◌-◌, ◌*◌, ◌≤◌, Bool, true, false, cond, ◌&&◌, eqb, leb, ◌≢◌, List, [], ◌∷◌, ◌++◌, length, get_or, set, Some, None, Ok, Err, Option, Result, sym, refl, ap, ◌∙◌, ⊎_elim, arith, get_or-set_other, get_or-set_same}
+use Rattle.std.proofs.lemmas.Bool.{and_cases, and_from, and_parts, both_ways, cases_Bool, cond-false, cond-true, eq-eqb, eqb-false, eqb-true, le-leb, leb-true, or_cases}
 use Rattle.busbar.specs.Record.{record_no}
 use Rattle.busbar.specs.Rounding.{within}
 use Rattle.busbar.specs.declared.question.Question.{Question}
 use Rattle.busbar.specs.declared.record.Record.{Record}
-use Rattle.sheet.specs.Calls.{Answer, Call, settle}
-use Rattle.sheet.specs.Plain.{Entry, Plain, change_at, change_entry, positions, put, stand, stands_if}
+use Rattle.sheet.specs.Plain.{Entry, Plain, change_at, change_entry, positions, put, stands_if}
 use Rattle.sheet.specs.Stored.{open_one}
 use Rattle.sheet.specs.declared.position.Change.{Change}
 use Rattle.sheet.specs.declared.position.Change.TheVariants as change
-use Rattle.history.specs.Hand.{Hand, hand_after, holds, is_slip, open_for, times, times_one, without}
+use Rattle.history.specs.Hand.{Hand, holds, is_slip, open_for, times, times_one, without}
 
 pub ok_same : {A B : Type 0} (x y : A) → ◌≡◌ {A = Result A B} (Ok x) (Ok y) → x ≡ y
 ok_same x y e = cc

@@ -1,5 +1,5 @@
 -- The law over the runs of two boards.
-use Rattle.std.proofs.Common.{◌≡◌, ℕ, ◌+◌, Bool, true, false, cond, eqb, List, [], ◌∷◌, Ok, Err, Result, sym, refl, ap, ◌∙◌, subst, arith}
+use Rattle.std.proofs.Common.{◌≡◌, ℕ, Bool, true, false, cond, List, [], Ok, Err, Result, refl, ap, ◌∙◌, subst, arith}
 use Rattle.busbar.specs.declared.question.Question.{Question}
 use Rattle.busbar.specs.declared.question.Question.TheVariants as q
 use Rattle.feeder.specs.Laws.{Lawful, Told, level_inside}

@@ -1,11 +1,11 @@
 -- What a course of calls keeps, and that the plain sheet goes with it.
-use Rattle.std.proofs.Common.{◌≡◌, ℕ, List, [], ◌∷◌, ◌++◌, sym, refl, ap, ◌∙◌, subst}
+use Rattle.std.proofs.Common.{◌≡◌, ℕ, List, [], ◌∷◌, ◌++◌, sym, refl, ap, ◌∙◌}
 use Rattle.feeder.specs.Laws.{Told}
-use Rattle.sheet.specs.Plain.{Plain, fresh}
+use Rattle.sheet.specs.Plain.{Plain}
 use Rattle.sheet.specs.Calls.{Call, Answer, step}
 use Rattle.sheet.specs.Happened.{Happened, Sound, plain_of}
 use Rattle.sheet.specs.declared.sheet.Sheet.{Sheet}
-use Rattle.history.specs.Course.{Course, New, plain_after, plain_answers}
+use Rattle.history.specs.Course.{Course, plain_after, plain_answers}
 
 after_more : (tells : ℕ → Told) (p : Plain) (cs : List Call) (c : Call) → plain_after tells p (cs ++ c ∷ []) ≡ (step tells (plain_after tells p cs) c).0
 after_more tells p [] c = refl

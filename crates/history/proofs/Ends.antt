@@ -1,14 +1,13 @@
 -- Withdrawing a slip that fits, and what is left when none is out.
-use Rattle.std.proofs.Common.{◌≡◌, ℕ, zero, suc, ◌+◌, ◌-◌, ◌*◌, ◌<◌, ◌≤◌, Bool, true, false, cond, ◌&&◌, eqb, leb, List, [], ◌∷◌, ◌++◌, map, length, get_or, set, Ok, Err, Result, sym, refl, ap, ◌∙◌, subst, ⊎_elim, arith}
+use Rattle.std.proofs.Common.{◌≡◌, ℕ, suc, ◌+◌, ◌-◌, ◌≤◌, true, false, ◌&&◌, eqb, leb, List, [], ◌∷◌, ◌++◌, map, length, get_or, set, Ok, sym, refl, ap, ◌∙◌, subst, ⊎_elim, arith}
 use lib.ListN.{length-map}
 use lib.Seq.{map-set_same}
 use Rattle.std.proofs.lemmas.List.{get_or_past, map_push}
 use Rattle.std.proofs.lemmas.Bool.{and_from, and_left, and_parts, cases_Bool, cond-false, cond-true, eq-eqb, eqb-true, le-leb, leb-false, leb-true, ne_eqb}
 use Rattle.busbar.specs.Rounding.{within}
 use Rattle.busbar.specs.declared.question.Question.TheVariants as q
-use Rattle.busbar.specs.declared.record.Record.{Record}
 use Rattle.feeder.specs.Laws.{Told}
-use Rattle.sheet.specs.Calls.{Answer, Call, settle, step}
+use Rattle.sheet.specs.Calls.{Answer, Call, settle}
 use Rattle.sheet.specs.Happened.{Happened, Sound, plain_of}
 use Rattle.sheet.specs.Plain.{Entry, Plain, change_at, change_by_slip, change_entry, positions, put}
 use Rattle.sheet.specs.Position.{entry_of}

@@ -1,5 +1,5 @@
 -- A load goes from a sheet with nothing open to one with nothing open.
-use Rattle.std.proofs.Common.{◌≡◌, ℕ, zero, suc, ◌+◌, ◌-◌, ◌*◌, ◌/◌, ◌<◌, ◌≤◌, true, false, cond, ◌&&◌, eqb, List, [], ◌∷◌, length, get_or, set, replicate, Some, None, Ok, Err, Option, Result, sym, refl, ap, ◌∙◌, subst, ⊎_elim, arith}
+use Rattle.std.proofs.Common.{◌≡◌, ℕ, zero, suc, ◌+◌, ◌-◌, ◌/◌, ◌≤◌, ◌&&◌, eqb, List, [], ◌∷◌, length, get_or, set, replicate, Some, None, Ok, Err, Option, Result, sym, refl, ap, ◌∙◌, ⊎_elim, arith}
 use Rattle.std.proofs.lemmas.Bool.{cases_Bool, cond-false, cond-true, eqb-true}
 use Rattle.busbar.specs.Record.{record_no}
 use Rattle.busbar.specs.Rounding.{within}
@@ -9,7 +9,7 @@ use Rattle.busbar.specs.declared.record.Record.{Record}
 use Rattle.stored.specs.Read.{read_header, read_line}
 use Rattle.stored.specs.declared.read.Stored.{Stored}
 use Rattle.sheet.specs.Plain.{Entry, Plain, positions}
-use Rattle.sheet.specs.Stored.{LoadNo, entered, length_right, line_entered, load_level, load_lines, load_next, load_of, no_at, number_of_line, open_one, open_ones, part_of, with_level}
+use Rattle.sheet.specs.Stored.{LoadNo, entered, length_right, line_entered, load_level, load_lines, load_next, load_of, no_at, open_one, open_ones, part_of, with_level}
 use Rattle.history.specs.Hand.{open_for}
 use Rattle.history.proofs.Balance.{err_not_ok, ok_same}
 

@@ -1,11 +1,11 @@
 -- What a replay keeps: the calls that were made are a course, and the slips go with the open positions.
-use Rattle.std.proofs.Common.{◌≡◌, ℕ, suc, ◌+◌, List, [], ◌∷◌, ◌++◌, map, length, sym, refl, ap, ◌∙◌, subst, append-nil, arith, length-append}
+use Rattle.std.proofs.Common.{◌≡◌, ℕ, ◌+◌, List, [], ◌∷◌, ◌++◌, map, length, sym, refl, ap, ◌∙◌, subst, append-nil, arith}
 use lib.ListN.{length-map}
 use Rattle.std.proofs.lemmas.List.{length_push, map_push}
 use Rattle.feeder.specs.Laws.{Told}
-use Rattle.sheet.specs.Calls.{Answer, Call, step}
-use Rattle.sheet.specs.Happened.{Happened, Sound, plain_of}
-use Rattle.sheet.specs.Plain.{Entry, Plain, fresh, positions}
+use Rattle.sheet.specs.Calls.{Call, step}
+use Rattle.sheet.specs.Happened.{Sound, plain_of}
+use Rattle.sheet.specs.Plain.{Plain, fresh, positions}
 use Rattle.sheet.specs.Position.{entry_of}
 use Rattle.sheet.specs.declared.sheet.Sheet.{Sheet}
 use Rattle.history.specs.Course.{Course, New}

@@ -1,16 +1,16 @@
 -- Taking a slip out of those in hand to spend it, and putting it back where it was not spent.
-use Rattle.std.proofs.Common.{◌≡◌, ℕ, suc, ◌+◌, ◌<◌, ◌≤◌, Bool, true, false, List, [], ◌∷◌, ◌++◌, map, length, get_or, take, drop, Some, None, Option, sym, refl, ap, ◌∙◌, subst, arith, take-append-drop}
+use Rattle.std.proofs.Common.{◌≡◌, ℕ, suc, ◌+◌, ◌<◌, List, ◌∷◌, ◌++◌, length, get_or, take, drop, Some, None, Option, sym, refl, ap, ◌∙◌, subst, arith, take-append-drop}
 use Rattle.std.proofs.lemmas.List.{drop_at, drop-map, drop_more, get_or-map, length-take-le, map-append, take_at, take-map}
 use Rattle.std.specs.List.{insert, remove}
 use Rattle.busbar.specs.declared.question.Question.{Question}
 use Rattle.busbar.specs.declared.record.Record.{Record}
 use Rattle.feeder.specs.Laws.{Told}
-use Rattle.sheet.specs.Calls.{Answer, Call}
+use Rattle.sheet.specs.Calls.{Answer}
 use Rattle.sheet.specs.Happened.{Happened}
 use Rattle.sheet.specs.declared.sheet.Sheet.{Sheet}
 use Rattle.sheet.specs.declared.slip.Slip.{Slip}
 use Rattle.history.proofs.Searches.{found_inside}
-use Rattle.history.specs.Values.{answer, not_in_hand}
+use Rattle.history.specs.Values.{answer}
 use Rattle.history.specs.Hand.{Did, Found, Hand, can_be_made, hand_after, hand_of, holds, slip_of, spending, without}
 
 -- what was taken out and put back at its place

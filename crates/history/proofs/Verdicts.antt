@@ -1,5 +1,5 @@
 -- The standing verdicts of a sound sheet, of one board and of two.
-use Rattle.std.proofs.Common.{◌≡◌, ℕ, ◌-◌, ◌<◌, ◌≤◌, true, cond, List, map, length, get_or, Some, None, sym, refl, ap, ◌∙◌, subst, arith}
+use Rattle.std.proofs.Common.{◌≡◌, ℕ, ◌-◌, ◌<◌, ◌≤◌, List, length, get_or, Some, None, sym, refl, ap, ◌∙◌, subst, arith}
 use Rattle.std.proofs.lemmas.List.{get_or-map}
 use Rattle.std.proofs.lemmas.Bool.{and_from, cond-true, le-leb}
 use Rattle.busbar.specs.Exact.{Exact}
@@ -13,14 +13,13 @@ use Rattle.busbar.proofs.Softness.{no_softer}
 use Rattle.feeder.specs.Laws.{InRanges, Lawful, Told}
 use Rattle.sheet.specs.Calls.{Answer, Call}
 use Rattle.sheet.specs.Happened.{Sound, plain_of}
-use Rattle.sheet.specs.Plain.{Plain, fresh}
 use Rattle.sheet.specs.Position.{again, again_state}
 use Rattle.sheet.specs.declared.position.Position.{Position}
 use Rattle.sheet.specs.declared.position.State.{State}
 use Rattle.sheet.specs.declared.position.State.TheVariants as state
 use Rattle.sheet.specs.declared.sheet.Sheet.{Sheet}
 use Rattle.history.specs.Course.{Course, New, plain_after, plain_answers}
-use Rattle.history.specs.Law.{Agreement, NoSofterThan, Right, StandsAt, TwoBoards}
+use Rattle.history.specs.Law.{Agreement, NoSofterThan, StandsAt, TwoBoards}
 use Rattle.history.proofs.Courses.{Followed, followed}
 
 -- the verdict that a state holds

@@ -1,5 +1,5 @@
 -- A sheet after every slip that was out for it was withdrawn.
-use Rattle.std.specs.Prelude.{◌≡◌, ℕ, List, map}
+use Rattle.std.specs.Prelude.{◌≡◌, ℕ, map}
 use Rattle.feeder.specs.Laws.{Told}
 use Rattle.sheet.specs.Happened.{Sound, plain_of}
 use Rattle.sheet.specs.Plain.{Entry, Plain}

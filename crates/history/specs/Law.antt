@@ -10,7 +10,6 @@ use Rattle.feeder.specs.Laws.{Told}
 use Rattle.sheet.specs.Calls.{Call, Answer}
 use Rattle.sheet.specs.Happened.{plain_of}
 use Rattle.sheet.specs.Plain.{fresh, positions}
-use Rattle.sheet.specs.declared.position.State.{State}
 use Rattle.sheet.specs.declared.position.State.TheVariants as state
 use Rattle.sheet.specs.declared.sheet.Sheet.{Sheet}
 use Rattle.history.specs.Course.{Course, New, plain_after, plain_answers}

@@ -1,9 +1,9 @@
 -- What a replay gives back.
-use Rattle.std.specs.Prelude.{◌≡◌, ℕ, ◌+◌, List, [], map, Ok, Err, vec_items, Result, Vec}
+use Rattle.std.specs.Prelude.{◌≡◌, ℕ, List, [], map, Ok, Err, vec_items, Result, Vec}
 use Rattle.std.specs.declared.alloc.Global.{Global}
 use Rattle.feeder.specs.Laws.{Told}
 use Rattle.sheet.specs.Calls.{Call}
-use Rattle.sheet.specs.Happened.{Sound, plain_of}
+use Rattle.sheet.specs.Happened.{plain_of}
 use Rattle.sheet.specs.Plain.{Plain}
 use Rattle.sheet.specs.declared.sheet.Sheet.{Sheet}
 use Rattle.sheet.specs.declared.slip.Slip.{Slip}

@@ -1,5 +1,5 @@
 -- The calls and answers that the code passes around, as the plain sheet knows them.
-use Rattle.std.specs.Prelude.{List, vec_items}
+use Rattle.std.specs.Prelude.{vec_items}
 use Rattle.sheet.specs.Calls.{Answer, Call}
 use Rattle.sheet.specs.Happened.{counts_shown, shown_of}
 use Rattle.sheet.specs.Stored.{no_at}

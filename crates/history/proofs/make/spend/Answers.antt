@@ -4,10 +4,10 @@ use Rattle.history.proofs.Searches.{found_inside}
 use Rattle.history.proofs.Spends.{can_spend, spent_now, not_spent}
 use Rattle.history.proofs.make.spend.Goals as goal
 
-pub returns-in-default : goal.returns-in-default
-returns-in-default g c =
+pub returns-in_default : goal.returns-in_default
+returns-in_default g c =
     record {
-      did = Did.not_made (can_spend _ _ _ c.args.bar ∙ subst (λ l. holds (hand_of l) c.args.job c.args.position ≡ false) c.deref.ensures.value c.in-default.ensures);
+      did = Did.not_made (can_spend _ _ _ c.args.bar ∙ subst (λ l. holds (hand_of l) c.args.job c.args.position ≡ false) c.deref.ensures.value c.in_default.ensures);
       few = omega arith;
       capacity = refl;
     }
@@ -18,8 +18,8 @@ remove-slip-requires g c =
     let lt = found_inside c.deref.result.now _ _ _ c.in-Some.ensures in
     omega (arith, lt, c.deref.ensures.len)
 
-pub put-back-requires : goal.put-back-requires
-put-back-requires g c =
+pub put_back-requires : goal.put_back-requires
+put_back-requires g c =
     let slips = c.args.slips.now in
     let lt = found_inside c.deref.result.now _ _ _ c.in-Some.ensures in
     let removed = c.remove-slip.ensures in
@@ -44,7 +44,7 @@ returns-in-Err g c =
     let slips = c.args.slips.now in
     let found = subst (λ l. Found (hand_of l) c.args.job c.args.position (Some c.in-Some.at)) c.deref.ensures.value c.in-Some.ensures in
     let removed = c.remove-slip.ensures in
-    let put = c.put-back.ensures in
+    let put = c.put_back.ensures in
     record {
       did = not_spent g.F.Feeder.meaning _ _ slips.items c.remove-slip.result _ _ _ c.args.bar found removed.value _ _ _ _ removed.items c.in-Err.ensures.slip put.items c.in-Err.ensures.happened;
       few = omega (arith, put.len, removed.len);

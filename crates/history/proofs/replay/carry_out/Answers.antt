@@ -20,7 +20,7 @@ pub loop-call-preserved : goal.loop-call-preserved
 loop-call-preserved g c =
     let inv = c.loop-call.invariant in
     let made = c.make-answer.ensures in
-    let pushed = c.push-reserved.ensures in
+    let pushed = c.push_reserved.ensures in
     let longer = length_push c.loop-call.yielded c.in-Some.call in (
       replayed_more g.F.Feeder.meaning _ _ _ _ _ _ c.loop-call.yielded _ _ c.in-Some.call _ inv.0 made.did pushed.items,
       omega (arith, inv.1, made.few, longer),

@@ -18,5 +18,5 @@ mod sheets;
 #[cfg(test)]
 mod sizes;
 #[cfg(test)]
-mod stored;
+mod stored_blocks;
 pub mod worked;

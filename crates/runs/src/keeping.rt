@@ -125,7 +125,7 @@ fn load_later(rt: &impl Abort, heap: Global, blocks: &[u8]) -> Result<(), Fail> 
         stored: blocks,
     };
     let again = blocks_of(rt, heap, loading)?;
-    assert!(rt; again == blocks);
+    assert!(rt; again.as_slice() == blocks);
     Ok(())
 }
 

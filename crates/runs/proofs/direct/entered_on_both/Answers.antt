@@ -12,7 +12,7 @@ returns g c =
     let course_f : Course g.F.Feeder.meaning c.new-one.result (Call.enter 7 c.args.bar ∷ []) (answered Answer.done c.enter.result ∷ []) c.enter.new.self = Course.more Course.none c.enter.ensures in
     let course_g : Course g.G.Feeder.meaning c.new-two.result (Call.enter 7 c.args.bar ∷ []) (answered Answer.done c.enter-2.result ∷ []) c.enter-2.new.self = Course.more Course.none c.enter-2.ensures in
     record {
-      first = (c.one-board.ensures _ _ _ _ _ _ new_f course_f).same_plain;
-      second = (c.one-board-2.ensures _ _ _ _ _ _ new_g course_g).same_plain;
-      law = c.two-boards.ensures _ _ _ _ _ _ _ _ _ _ _ _ new_f course_f new_g course_g;
+      first = (c.one_board.ensures _ _ _ _ _ _ new_f course_f).same_plain;
+      second = (c.one_board-2.ensures _ _ _ _ _ _ new_g course_g).same_plain;
+      law = c.two_boards.ensures _ _ _ _ _ _ _ _ _ _ _ _ new_f course_f new_g course_g;
     }

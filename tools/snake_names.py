@@ -12,7 +12,7 @@ import sys
 
 WORD = r"[A-Za-z][\w']*(?:-[\w']+)+"
 TOKEN = re.compile(rf"(?<![\w'-]){WORD}(?![\w'-])")
-LIBRARY = re.compile(r"^\s*use ((?:Rattle\.(?:std|core|std_\w+)|borrow|denote|sep|lib|mathlib|Prim)(?:\.\S+)?)\.\{(.*)\}")
+LIBRARY = re.compile(r"^\s*use ((?:Rattle\.(?:std|core|std_\w+)|borrow|denote|sep|lib|mathlib|native|Prim)(?:\.\S+)?)\.\{(.*)\}")
 FALL_TOGETHER = {
     "main-stress": "main_stress_of",
     "sub-stress": "sub_stress_of",

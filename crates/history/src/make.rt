@@ -40,28 +40,28 @@ pub(crate) fn make<F: Feeder>(sheet: &mut Sheet<F>, slips: &mut Vec<Slip>, call:
     }
 }
 
-fn done_or_no(res: Result<(), Question>) -> Answer
-    ensures { reply_of result ≡ replied (answered done res) }
+fn done_or_no(outcome: Result<(), Question>) -> Answer
+    ensures { reply_of result ≡ replied (answered done outcome) }
 {
-    match res {
+    match outcome {
         Ok(()) => Answer::Done,
         Err(question) => Answer::Refused(question),
     }
 }
 
-fn loaded_or_no(res: Result<(), NotLoaded>) -> Answer
-    ensures { reply_of result ≡ replied (loaded_or_no res) }
+fn loaded_or_no(outcome: Result<(), NotLoaded>) -> Answer
+    ensures { reply_of result ≡ replied (loaded_or_no outcome) }
 {
-    match res {
+    match outcome {
         Ok(()) => Answer::Done,
         Err(no) => Answer::NotLoaded(no),
     }
 }
 
-fn shown_or_no(res: Result<State, Question>) -> Answer
-    ensures { reply_of result ≡ replied (state_or_no res) }
+fn shown_or_no(outcome: Result<State, Question>) -> Answer
+    ensures { reply_of result ≡ replied (state_or_no outcome) }
 {
-    match res {
+    match outcome {
         Ok(state) => Answer::Shows(state),
         Err(question) => Answer::Refused(question),
     }

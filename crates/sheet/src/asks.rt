@@ -24,8 +24,7 @@ impl<F: Feeder> Sheet<F> {
 
     // The prospective fault current that the verdicts are for, A.
     pub fn level(&self) -> u32
-        ensures happened { Happened F.Feeder.meaning self.now ask_level (number result) self.now }
-        ensures value { result ≡ self.now.level }
+        ensures { Happened F.Feeder.meaning self.now ask_level (number result) self.now }
     {
         self.level
     }

@@ -29,7 +29,7 @@ pub returns-in-MayRelease : goal.returns-in-MayRelease
 returns-in-MayRelease g c = record { did = plainly _ _ _ _ _ _ _ _ (ap call_of c.in-MayRelease.is) refl refl refl c.may_release.ensures; few = omega arith; capacity = refl }
 
 pub returns-in-Level : goal.returns-in-Level
-returns-in-Level g c = record { did = plainly _ _ _ _ _ _ _ _ (ap call_of c.in-Level.is) refl refl refl c.level.ensures.happened; few = omega arith; capacity = refl }
+returns-in-Level g c = record { did = plainly _ _ _ _ _ _ _ _ (ap call_of c.in-Level.is) refl refl refl c.level.ensures; few = omega arith; capacity = refl }
 
 pub returns-in-Job : goal.returns-in-Job
 returns-in-Job g c = record { did = plainly _ _ _ _ _ _ _ _ (ap call_of c.in-Job.is) refl refl refl c.job.ensures.happened; few = omega arith; capacity = refl }

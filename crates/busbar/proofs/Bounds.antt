@@ -56,16 +56,10 @@ stress_top v b F l hv hb hF hl = mul-le-mul (mul-le-mul (mul-le-mul hv hb) hF) h
 pub bent_top : (v G d : ℕ) → v ≤ 18 → G ≤ 405000000000 → d ≤ 3000 → v * G * d ≤ 21870000000000000
 bent_top v G d hv hG hd = mul-le-mul (mul-le-mul hv hG) hd
 
-pub load_top : (F s V : ℕ) → F ≤ 405000000000 → s ≤ 1250 → V ≤ 2700 → F * s * V ≤ 1366875000000000000
-load_top F s V hF hs hV = mul-le-mul (mul-le-mul hF hs) hV
-
 -- and that below G
 
 pub shared_bottom : (n e : ℕ) → 2 ≤ n → 13 ≤ e → 2600 ≤ 50 * n * n * e
 shared_bottom n e hn he = mul-le-mul {n₁ = 200} (mul-le-mul {n₁ = 100} (mul-le-mul {n₁ = 50} {n₂ = 50} (lit≤ tt) hn) hn) he
-
-pub shared_bottom_most : (n e : ℕ) → n ≤ 3 → e ≤ 80 → 50 * n * n * e ≤ 36000
-shared_bottom_most n e hn he = mul-le-mul (mul-le-mul (mul-le-mul {n₂ = 50} (lit≤ tt) hn) hn) he
 
 -- the forces
 

@@ -3,9 +3,6 @@ use Rattle.std.proofs.Common.{◌≡◌, ℕ, ◌+◌, ◌-◌, ◌*◌, ◌/◌
 use native.Mathlib.Nat.{div-le_of_le-mul}
 use Rattle.std.proofs.lemmas.Nat.{mul-lt}
 
-pub bar_most : (b t : ℕ) → b ≤ 200 → t ≤ 20 → 1000 * b * t * t ≤ 80000000
-bar_most b t hb ht = mul-le-mul (mul-le-mul (mul-le-mul {n₂ = 1000} (lit≤ tt) hb) ht) ht
-
 pub rod_most : (D : ℕ) → D ≤ 200 → 314159 * D * D * D ≤ 2513272000000
 rod_most D h = mul-le-mul (mul-le-mul (mul-le-mul {n₂ = 314159} (lit≤ tt) h) h) h
 

@@ -1,17 +1,15 @@
 -- A duty that is no easier gets no softer verdict.
-use Rattle.std.proofs.Common.{◌≡◌, ℕ, ◌*◌, ◌≤◌, Bool, true, false, cond, leb, Some, None, Option, sym, refl, ap, subst, le_refl, mul-le-mul, mul-le-mul_left, arith, lit≤}
+use Rattle.std.proofs.Common.{◌≡◌, ℕ, ◌*◌, ◌≤◌, Bool, true, false, cond, leb, Some, None, Ok, Err, Option, sym, refl, ap, subst, le_refl, mul-le-mul, mul-le-mul_left, arith, lit≤}
 use Rattle.std.proofs.lemmas.Bool.{cond_both, leb-true, both_ways, le-leb, cond-true}
 use Rattle.busbar.specs.Factors.{support_share, bending_share, phase_factor, load_factor, stress_factor}
 use Rattle.busbar.specs.Figures.{current_force, span_force, sub_bar_force, sub_force, main_stress_of, sub_bar_stress, sub_stress_of, support_load_of, rated_current}
 use Rattle.busbar.specs.Record.{passes}
-use Rattle.busbar.specs.Verdict.{ground_number, figures_under, heat_limit, plastic_limit, figure_of, limit_of, refused_on, then_on, verdict_under, verdict_on, figures_told, verdict}
+use Rattle.busbar.specs.Verdict.{Verdict, ground_number, figures_under, heat_limit, plastic_limit, figure_of, limit_of, refused_on, then_on, verdict_under, verdict_on, figures_told, verdict}
 use Rattle.busbar.specs.Harder.{NoEasier, NoEasierSubBars, NoSmaller, NoSofter, NoSofterThanEasier}
 use Rattle.busbar.specs.declared.record.Record.{Record}
 use Rattle.busbar.specs.declared.section.SubBars.{SubBars}
 use Rattle.busbar.specs.declared.verdict.Ground.{Ground}
 use Rattle.busbar.specs.declared.verdict.Ground.TheVariants as grounds
-use Rattle.busbar.specs.declared.verdict.Verdict.{Verdict}
-use Rattle.busbar.specs.declared.verdict.Verdict.TheVariants.{Accepted, Refused}
 use Rattle.busbar.proofs.Ranges.{Ranges, SubBarsIn, ranges}
 use Rattle.busbar.proofs.Rounds.{up_mono}
 use Rattle.busbar.proofs.Bounds.{shared_bottom}
@@ -90,15 +88,15 @@ limit_mono x y e grounds.SupportLoad = mul-le-mul_left 1000 e.strength_no_greate
 
 -- refused, if at all, on the ground g or a later one
 abbrev Later : Ground → Verdict → Type 0
-Later g Accepted = Unit {0}
-Later g (Refused r) = ground_number g ≤ ground_number r.ground
+Later g (Ok _) = Unit {0}
+Later g (Err r) = ground_number g ≤ ground_number r.ground
 
 later_step : (g h : Ground) (b : Bool) (next : Verdict) (f l : ℕ) → ground_number h ≤ ground_number g → Later h next → Later h (cond b next (refused_on g f l))
 later_step g h b next f l le after = cond_both b next (refused_on g f l) (Later h) (λ _. after) (λ _. le)
 
 refused_no_softer : (g : Ground) (f l : ℕ) (w : Verdict) → Later g w → NoSofter (refused_on g f l) w
-refused_no_softer g f l Accepted h = tt
-refused_no_softer g f l (Refused s) h = h
+refused_no_softer g f l (Ok _) h = tt
+refused_no_softer g f l (Err s) h = h
 
 step : (g : Ground) (v w : Verdict) (f l f' l' : ℕ) → f' ≤ f → l ≤ l' → NoSofter v w → Later g w
     → NoSofter (cond (leb f l) v (refused_on g f l)) (cond (leb f' l') w (refused_on g f' l'))
@@ -117,14 +115,14 @@ module _ (x y : Record) (r : Ranges x) (e : NoEasier x y) (I K Q P : ℕ) (more 
 
   under_no_softer : NoSofter (verdict_under x I Q) (verdict_under y K P)
   under_no_softer =
-      let load : Verdict = then_on y K P grounds.SupportLoad Accepted in
+      let load : Verdict = then_on y K P grounds.SupportLoad (Ok tt) in
       let total : Verdict = then_on y K P grounds.TotalStress load in
-      let load_later : (h : Ground) → ground_number h ≤ 5 → Later h load = λ h le. later_step grounds.SupportLoad h _ Accepted _ _ le tt in
+      let load_later : (h : Ground) → ground_number h ≤ 5 → Later h load = λ h le. later_step grounds.SupportLoad h _ (Ok tt) _ _ le tt in
       let total_later : (h : Ground) → ground_number h ≤ 4 → Later h total =
       λ h le. later_step grounds.TotalStress h _ load _ _ le (load_later h (omega arith)) in
       chain grounds.Heat _ _
       (chain grounds.SubBarStress _ _
-      (chain grounds.TotalStress _ _ (chain grounds.SupportLoad Accepted Accepted tt tt) (load_later grounds.TotalStress (lit≤ tt)))
+      (chain grounds.TotalStress _ _ (chain grounds.SupportLoad (Ok tt) (Ok tt) tt tt) (load_later grounds.TotalStress (lit≤ tt)))
       (total_later grounds.SubBarStress (lit≤ tt)))
       (later_step grounds.SubBarStress grounds.Heat _ total _ _ (lit≤ tt) (total_later grounds.Heat (lit≤ tt)))
 
@@ -137,8 +135,8 @@ first_ground grounds.TotalStress = lit≤ tt
 first_ground grounds.SupportLoad = lit≤ tt
 
 no_figures_first : (w : Verdict) → Later grounds.Figures w
-no_figures_first Accepted = tt
-no_figures_first (Refused s) = first_ground s.ground
+no_figures_first (Ok _) = tt
+no_figures_first (Err s) = first_ground s.ground
 
 on_no_softer : (x y : Record) → Ranges x → NoEasier x y → (s t : Option (ℕ × ℕ)) → NoSmaller s t → NoSofter (verdict_on x s) (verdict_on y t)
 on_no_softer x y r e None t h = refused_no_softer grounds.Figures 0 0 (verdict_on y t) (no_figures_first _)

@@ -1,15 +1,13 @@
 -- The grounds taken exactly: the same formulas as fractions without any rounding, and with the true root of three.
-use Rattle.std.specs.Prelude.{◌≡◌, ℕ, ◌+◌, ◌-◌, ◌*◌, ◌<◌, ◌≤◌, Some, None, Option}
+use Rattle.std.specs.Prelude.{◌≡◌, ℕ, ◌+◌, ◌-◌, ◌*◌, ◌<◌, ◌≤◌, Some, None, Ok, Err, Option}
 use Rattle.busbar.specs.Factors.{support_share, bending_share, load_factor, stress_factor}
-use Rattle.busbar.specs.Verdict.{figures_told}
+use Rattle.busbar.specs.Verdict.{Verdict, figures_told}
 use Rattle.busbar.specs.declared.record.FaultKind.{FaultKind}
 use Rattle.busbar.specs.declared.record.FaultKind.TheVariants.{ThreePhase, TwoLine}
 use Rattle.busbar.specs.declared.record.Record.{Record}
 use Rattle.busbar.specs.declared.section.SubBars.{SubBars}
 use Rattle.busbar.specs.declared.verdict.Ground.{Ground}
 use Rattle.busbar.specs.declared.verdict.Ground.TheVariants as grounds
-use Rattle.busbar.specs.declared.verdict.Verdict.{Verdict}
-use Rattle.busbar.specs.declared.verdict.Verdict.TheVariants.{Accepted, Refused}
 
 -- a fraction: top over bottom
 pub record Fraction : Type 0 where
@@ -120,12 +118,12 @@ pub record HoldsWhole (x : Record) (I Q : ℕ) : Type 0 where
 -- refused: on ground 1 since no figures were told, on another since its exact inequality fails once its limit is cut.
 -- As ground 1 always holds where figures were told, nobody is refused on it then.
 abbrev pub ExactUnder : Record → ℕ → ℕ → Verdict → Type 0
-ExactUnder x I Q Accepted = HoldsWhole x I Q
-ExactUnder x I Q (Refused r) = Holds r.ground cut x I Q → ⊥
+ExactUnder x I Q (Ok _) = HoldsWhole x I Q
+ExactUnder x I Q (Err r) = Holds r.ground cut x I Q → ⊥
 
 abbrev pub RefusedOnFigures : Verdict → Type 0
-RefusedOnFigures Accepted = ⊥
-RefusedOnFigures (Refused r) = (r.ground ≡ grounds.Figures) × (r.figure ≡ 0) × (r.limit ≡ 0)
+RefusedOnFigures (Ok _) = ⊥
+RefusedOnFigures (Err r) = (r.ground ≡ grounds.Figures) × (r.figure ≡ 0) × (r.limit ≡ 0)
 
 abbrev pub ExactOn : Record → Option (ℕ × ℕ) → Verdict → Type 0
 ExactOn x None v = RefusedOnFigures v

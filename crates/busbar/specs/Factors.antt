@@ -5,6 +5,14 @@ use Rattle.busbar.specs.declared.record.FaultKind.TheVariants.{ThreePhase, TwoLi
 use Rattle.busbar.specs.declared.record.Scheme.{Scheme}
 use Rattle.busbar.specs.declared.record.Scheme.TheVariants.{BothSimple, FixedAndSimple, BothFixed, TwoSpans, MoreSpans}
 
+-- the number that a scheme is stored under
+abbrev pub scheme_number : Scheme → ℕ
+scheme_number BothSimple = 1
+scheme_number FixedAndSimple = 2
+scheme_number BothFixed = 3
+scheme_number TwoSpans = 4
+scheme_number MoreSpans = 5
+
 -- alpha of the worse support, thousandths
 abbrev pub support_share : Scheme → ℕ
 support_share BothSimple = 500

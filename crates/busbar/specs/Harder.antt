@@ -1,11 +1,9 @@
 -- When one duty is no easier than another, and that it then gets no softer verdict.
-use Rattle.std.specs.Prelude.{◌≡◌, ℕ, ◌≤◌, true, Some, None, Option}
+use Rattle.std.specs.Prelude.{◌≡◌, ℕ, ◌≤◌, true, Some, None, Ok, Err, Option}
 use Rattle.busbar.specs.Record.{passes}
-use Rattle.busbar.specs.Verdict.{ground_number, figures_told, verdict}
+use Rattle.busbar.specs.Verdict.{Verdict, ground_number, figures_told, verdict}
 use Rattle.busbar.specs.declared.record.Record.{Record}
 use Rattle.busbar.specs.declared.section.SubBars.{SubBars}
-use Rattle.busbar.specs.declared.verdict.Verdict.{Verdict}
-use Rattle.busbar.specs.declared.verdict.Verdict.TheVariants.{Accepted, Refused}
 
 -- sub-bars s are no easier than t: as many, tied at no smaller spacing, each no stiffer and no further apart
 pub record NoEasierBars (s t : SubBars) : Type 0 where
@@ -46,10 +44,10 @@ NoSmaller (Some s) (Some t) = (t.0 ≤ s.0) × (t.1 ≤ s.1)
 
 -- where w is refused, v is refused too, on the same ground or an earlier one
 abbrev pub NoSofter : Verdict → Verdict → Type 0
-NoSofter Accepted Accepted = Unit {0}
-NoSofter (Refused r) Accepted = Unit {0}
-NoSofter Accepted (Refused s) = ⊥
-NoSofter (Refused r) (Refused s) = ground_number r.ground ≤ ground_number s.ground
+NoSofter (Ok _) (Ok _) = Unit {0}
+NoSofter (Err r) (Ok _) = Unit {0}
+NoSofter (Ok _) (Err s) = ⊥
+NoSofter (Err r) (Err s) = ground_number r.ground ≤ ground_number s.ground
 
 -- the verdict v on x under what was told is no softer than that on any easier record under no larger figures
 abbrev pub NoSofterThanEasier : Record → Option (ℕ × ℕ) → Verdict → Type 0

@@ -1,5 +1,5 @@
--- The number of each question.
-use Rattle.std.specs.Prelude.{ℕ}
+-- The number of each question, and what asking it comes to.
+use Rattle.std.specs.Prelude.{ℕ, Bool, true, false, Ok, Err, Result}
 use Rattle.busbar.specs.declared.question.Question.{Question}
 use Rattle.busbar.specs.declared.question.Question.TheVariants as q
 
@@ -28,3 +28,8 @@ number_of q.MotorsSize = 41
 number_of q.CurvePoint = 42
 number_of q.SectionSize = 43
 number_of q.StackSize = 44
+
+-- a yes, or the question that got a no
+abbrev pub asked : Question → Bool → Result (Unit {0}) Question
+asked question true = Ok tt
+asked question false = Err question

@@ -1,13 +1,17 @@
 -- The verdict: the first ground that fails, with figure and limit.
-use Rattle.std.specs.Prelude.{ℕ, ◌+◌, ◌*◌, ◌/◌, cond, ◌&&◌, Some, None, Option, nat_le}
+use Rattle.std.specs.Prelude.{ℕ, ◌+◌, ◌*◌, ◌/◌, cond, ◌&&◌, Some, None, Ok, Err, Option, Result, List, ◌++◌, codes, nat_le}
+use Rattle.std.specs.Fmt.{decimal}
 use Rattle.busbar.specs.Rounding.{within}
 use Rattle.busbar.specs.Figures.{span_force, sub_force, main_stress_of, sub_stress_of, support_load_of, rated_current}
 use Rattle.busbar.specs.declared.record.Record.{Record}
 use Rattle.busbar.specs.declared.verdict.Figures.{Figures}
 use Rattle.busbar.specs.declared.verdict.Ground.{Ground}
 use Rattle.busbar.specs.declared.verdict.Ground.TheVariants as grounds
-use Rattle.busbar.specs.declared.verdict.Verdict.{Verdict}
-use Rattle.busbar.specs.declared.verdict.Verdict.TheVariants.{Accepted, Refused}
+use Rattle.busbar.specs.declared.verdict.Refusal.{Refusal}
+
+-- accepted, or refused with the ground that failed
+abbrev pub Verdict : Type 0
+Verdict = Result (Unit {0}) Refusal
 
 abbrev pub ground_number : Ground → ℕ
 ground_number grounds.Figures = 1
@@ -57,7 +61,15 @@ limit_of grounds.TotalStress x = plastic_limit x
 limit_of grounds.SupportLoad x = strength_limit x
 
 abbrev pub refused_on : (ground : Ground) (figure limit : ℕ) → Verdict
-refused_on g figure limit = Refused (record { ground = g; figure = figure; limit = limit })
+refused_on g figure limit = Err (record { ground = g; figure = figure; limit = limit })
+
+-- a ground is passed where its figure is within its limit
+abbrev pub passed_on : (ground : Ground) (figure limit : ℕ) → Verdict
+passed_on g figure limit = cond (nat_le figure limit) (Ok tt) (refused_on g figure limit)
+
+-- how a refusal is printed
+abbrev pub refusal_text : Refusal → List ℕ
+refusal_text r = codes "refused " ++ decimal (ground_number r.ground)
 
 -- on a ground: the next one where the figure is within the limit, else refused here
 abbrev pub then_on : Record → ℕ → ℕ → Ground → Verdict → Verdict
@@ -67,7 +79,7 @@ then_on x I Q g next =
 abbrev pub verdict_under : Record → ℕ → ℕ → Verdict
 verdict_under x I Q =
     then_on x I Q grounds.Heat
-    (then_on x I Q grounds.SubBarStress (then_on x I Q grounds.TotalStress (then_on x I Q grounds.SupportLoad Accepted)))
+    (then_on x I Q grounds.SubBarStress (then_on x I Q grounds.TotalStress (then_on x I Q grounds.SupportLoad (Ok tt))))
 
 -- what a feeder told, where it lies in a feeder's ranges; anything else counts as nothing
 abbrev pub figures_told : Option (ℕ × ℕ) → Option (ℕ × ℕ)

@@ -1,21 +1,58 @@
 // The effective distance between the bars of a stack: a part of Table 1 of EN 60865-1:2012.
-ghost use Rattle.std.specs.Prelude.{◌≡◌, ◌<◌, ◌≤◌};
+ghost use Rattle.std.specs.Prelude.{◌≡◌, ◌<◌, ◌≤◌, MatchOption, OnSome};
 ghost use Rattle.busbar.specs.Distance.{column_of, stack_distance};
 
-// Rows by count and thickness, columns by height: 40, 50, 60, 80, 100, 120, 160, 200. Zero stands for a dash.
-const TWO_OF_5: [u32; 8] = [20, 24, 27, 33, 40, 0, 0, 0];
+// Rows by count and thickness, columns by height: 40, 50, 60, 80, 100, 120, 160, 200. None stands for a dash.
+// Rows and columns as in the standard's table and in the definition.
+const TWO_OF_5: [Option<u32>; 8] = [
+    Some(20),
+    Some(24),
+    Some(27),
+    Some(33),
+    Some(40),
+    None,
+    None,
+    None,
+];
 
-const TWO_OF_10: [u32; 8] = [28, 31, 34, 41, 47, 54, 67, 80];
+const TWO_OF_10: [Option<u32>; 8] = [
+    Some(28),
+    Some(31),
+    Some(34),
+    Some(41),
+    Some(47),
+    Some(54),
+    Some(67),
+    Some(80),
+];
 
-const THREE_OF_5: [u32; 8] = [0, 13, 15, 18, 22, 0, 0, 0];
+const THREE_OF_5: [Option<u32>; 8] = [
+    None,
+    Some(13),
+    Some(15),
+    Some(18),
+    Some(22),
+    None,
+    None,
+    None,
+];
 
-const THREE_OF_10: [u32; 8] = [17, 19, 20, 23, 27, 30, 37, 43];
+const THREE_OF_10: [Option<u32>; 8] = [
+    Some(17),
+    Some(19),
+    Some(20),
+    Some(23),
+    Some(27),
+    Some(30),
+    Some(37),
+    Some(43),
+];
 
-// The column of a height, or 8 where the table has none.
-fn column(height: u32) -> usize
-    ensures { result ≡ column_of height }
+// The column of a height, where the table has one.
+fn column(height: u32) -> Option<usize>
+    ensures { MatchOption result (column_of height ≡ 8) (λ at. (at < 8) × (column_of height ≡ at)) }
 {
-    match height {
+    Some(match height {
         40 => 0,
         50 => 1,
         60 => 2,
@@ -24,22 +61,21 @@ fn column(height: u32) -> usize
         120 => 5,
         160 => 6,
         200 => 7,
-        _ => 8,
-    }
+        _ => return None,
+    })
 }
 
-// e, or 0 where the table has a dash or no such stack.
-pub fn effective_distance(count: u32, thickness: u32, height: u32) -> u32
-    ensures value { result ≡ stack_distance count thickness height }
-    ensures sizes { 0 < result → (count ≤ 3) × (thickness ≤ 10) × (height ≤ 200) }
+// e, where the table has such a stack and no dash.
+pub fn effective_distance(count: u32, thickness: u32, height: u32) -> Option<u32>
+    ensures value { MatchOption result (stack_distance count thickness height ≡ 0) (λ e. (0 < e) × (stack_distance count thickness height ≡ e)) }
+    ensures sizes { OnSome result ((count ≤ 3) × (thickness ≤ 10) × (height ≤ 200)) }
 {
     let row = match (count, thickness) {
         (2, 5) => TWO_OF_5,
         (2, 10) => TWO_OF_10,
         (3, 5) => THREE_OF_5,
         (3, 10) => THREE_OF_10,
-        _ => return 0,
+        _ => return None,
     };
-    let at = column(height);
-    if at < 8 { row[at] } else { 0 }
+    row[column(height)?]
 }

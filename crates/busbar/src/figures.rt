@@ -2,23 +2,24 @@
 ghost use Rattle.std.specs.Prelude.{◌≡◌};
 ghost use Rattle.busbar.specs.Figures.{current_force, span_force, sub_force, main_stress_of, sub_stress_of, support_load_of, rated_current};
 
-use super::amount::{Force, Peak};
 use super::checked::CheckedRecord;
 use super::factors::stress_factor;
+use super::force::Force;
+use super::ranged::Peak;
 use super::rounding::rounded_up;
 
 impl CheckedRecord {
     // U, the force of the currents where span and distance are equal, 0.1 µN.
     pub fn current_force(&self, peak: Peak) -> u64
-        ensures { result ≡ current_force self.now.bar.kind peak.amps }
+        ensures { result ≡ current_force self.now.bar.kind peak.value }
     {
-        let amps = peak.amps as u64;
+        let amps = peak.value as u64;
         rounded_up(amps * amps * self.bar.kind.phase_factor(), 500_000)
     }
 
     // F, the force on the span (F_m3 or F_m2).
     pub fn span_force(&self, peak: Peak) -> Force
-        ensures { result.units ≡ span_force self.now.bar peak.amps }
+        ensures { result.units ≡ span_force self.now.bar peak.value }
     {
         let along = self.current_force(peak)
             * self.bar.span as u64
@@ -28,14 +29,14 @@ impl CheckedRecord {
         }
     }
 
-    // G, the force on a sub-bar between two connecting pieces (F_s), 0 without sub-bars.
+    // G, the force on a sub-bar between two connecting pieces (F_s); by the rules 0 without sub-bars, so that every bar has every figure.
     pub fn sub_force(&self, peak: Peak) -> Force
-        ensures { result.units ≡ sub_force self.now.bar peak.amps }
+        ensures { result.units ≡ sub_force self.now.bar peak.value }
     {
         match self.bar.section.sub_bars {
             None => Force { units: 0 },
             Some(bars) => {
-                let amps = peak.amps as u64;
+                let amps = peak.value as u64;
                 let count = bars.count as u64;
                 let shared = amps * amps * bars.spacing as u64;
                 Force {
@@ -56,7 +57,7 @@ impl CheckedRecord {
         )
     }
 
-    // The bending stress of a sub-bar (σ_s,d), kPa, 0 without sub-bars.
+    // The bending stress of a sub-bar (σ_s,d), kPa; by the rules 0 without sub-bars.
     pub fn sub_stress(&self, force: Force) -> u64
         ensures { result ≡ sub_stress_of self.now.bar force.units }
     {

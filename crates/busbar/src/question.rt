@@ -1,37 +1,41 @@
 // Everything that can get a no, each under its number. A call answers the first of its questions that got one.
-ghost use Rattle.std.specs.Prelude.{◌≡◌};
-ghost use Rattle.busbar.specs.Question.{number_of};
+ghost use Rattle.std.specs.Prelude.{◌≡◌, Some};
+ghost use Rattle.std.specs.Fmt.{decimal};
+ghost use Rattle.busbar.specs.Question.{asked, number_of};
 
-#[derive(Clone, Copy)]
+use std::error::Error;
+use std::fmt;
+
+#[derive(Clone, Copy, Debug, PartialEq, Eq)]
 pub enum Question {
     // the record's, in their order
-    SectionFigures,
-    Span,
-    CentreDistance,
-    DistanceFactor,
-    YieldStress,
-    RatedDensity,
-    SupportStrength,
-    PieceSpacing,
+    SectionFigures = 10,
+    Span = 11,
+    CentreDistance = 12,
+    DistanceFactor = 13,
+    YieldStress = 14,
+    RatedDensity = 15,
+    SupportStrength = 16,
+    PieceSpacing = 17,
     // the sheet's calls
-    PositionNumber,
-    PositionEmpty,
-    PositionStanding,
-    Level,
-    SlipFits,
-    NothingOpen,
-    BufferRoom,
+    PositionNumber = 18,
+    PositionEmpty = 19,
+    PositionStanding = 20,
+    Level = 21,
+    SlipFits = 22,
+    NothingOpen = 23,
+    BufferRoom = 24,
     // a stored sheet
-    StoredLength,
-    BlockCheck,
-    BlockLayout,
-    SameJob,
+    StoredLength = 30,
+    BlockCheck = 31,
+    BlockLayout = 32,
+    SameJob = 33,
     // what is made of sizes
-    GridSize,
-    MotorsSize,
-    CurvePoint,
-    SectionSize,
-    StackSize,
+    GridSize = 40,
+    MotorsSize = 41,
+    CurvePoint = 42,
+    SectionSize = 43,
+    StackSize = 44,
 }
 
 impl Question {
@@ -39,31 +43,23 @@ impl Question {
     pub fn number(self) -> u32
         ensures { result ≡ number_of self }
     {
-        match self {
-            Question::SectionFigures => 10,
-            Question::Span => 11,
-            Question::CentreDistance => 12,
-            Question::DistanceFactor => 13,
-            Question::YieldStress => 14,
-            Question::RatedDensity => 15,
-            Question::SupportStrength => 16,
-            Question::PieceSpacing => 17,
-            Question::PositionNumber => 18,
-            Question::PositionEmpty => 19,
-            Question::PositionStanding => 20,
-            Question::Level => 21,
-            Question::SlipFits => 22,
-            Question::NothingOpen => 23,
-            Question::BufferRoom => 24,
-            Question::StoredLength => 30,
-            Question::BlockCheck => 31,
-            Question::BlockLayout => 32,
-            Question::SameJob => 33,
-            Question::GridSize => 40,
-            Question::MotorsSize => 41,
-            Question::CurvePoint => 42,
-            Question::SectionSize => 43,
-            Question::StackSize => 44,
-        }
+        self as u32
+    }
+
+    // A yes lets the next question be asked; a no is the answer.
+    pub fn ask(self, yes: bool) -> Result<(), Question>
+        ensures { result ≡ asked self yes }
+    {
+        if yes { Ok(()) } else { Err(self) }
     }
 }
+
+impl fmt::Display for Question {
+    ghost output = { λ q. Some (decimal (number_of q)) };
+
+    fn fmt<W: fmt::Write>(&self, f: &mut fmt::Formatter<W>) -> fmt::Result {
+        write!(f, "{}", self.number())
+    }
+}
+
+impl Error for Question {}

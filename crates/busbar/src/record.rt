@@ -1,27 +1,76 @@
 // The record: one bar as it is entered.
-use super::section::Section;
+ghost use Rattle.std.specs.Prelude.{◌≡◌, false, MatchResult, if◌then◌else◌};
+ghost use Rattle.busbar.specs.Factors.{scheme_number};
+ghost use Rattle.busbar.specs.Rounding.{within};
+ghost use Rattle.busbar.specs.declared.record.FaultKind.TheVariants.{ThreePhase, TwoLine};
 
-#[derive(Clone, Copy)]
+use super::section::Section;
+use std::error::Error;
+use std::fmt;
+
+#[derive(Clone, Copy, Debug, PartialEq, Eq)]
 pub enum FaultKind {
-    ThreePhase,
-    TwoLine,
+    ThreePhase = 0,
+    TwoLine = 1,
 }
 
-// How the bar is held.
-#[derive(Clone, Copy)]
+// How the bar is held, by the number that it is stored under.
+#[derive(Clone, Copy, Debug, PartialEq, Eq)]
 pub enum Scheme {
     // one span, both ends simple
-    BothSimple,
+    BothSimple = 1,
     // one span, one end fixed and one simple
-    FixedAndSimple,
+    FixedAndSimple = 2,
     // one span, both ends fixed
-    BothFixed,
-    TwoSpans,
+    BothFixed = 3,
+    TwoSpans = 4,
     // three spans and more
-    MoreSpans,
+    MoreSpans = 5,
 }
 
-#[derive(Clone, Copy)]
+// A number that stands for no scheme.
+#[derive(Clone, Copy, Debug, PartialEq, Eq)]
+pub struct UnknownScheme(pub u32);
+
+// The kind by the flag that it is stored as.
+impl From<bool> for FaultKind {
+    ghost from_gives = { λ two_line kind. kind ≡ (if two_line then TwoLine else ThreePhase) };
+
+    fn from(two_line: bool) -> FaultKind {
+        if two_line {
+            FaultKind::TwoLine
+        } else {
+            FaultKind::ThreePhase
+        }
+    }
+}
+
+impl TryFrom<u32> for Scheme {
+    type Error = UnknownScheme;
+
+    ghost try_from_gives = { λ n outcome. MatchResult outcome (λ scheme. scheme_number scheme ≡ n) (λ e. (e.0 ≡ n) × (within 1 5 n ≡ false)) };
+
+    fn try_from(number: u32) -> Result<Scheme, UnknownScheme> {
+        match number {
+            1 => Ok(Scheme::BothSimple),
+            2 => Ok(Scheme::FixedAndSimple),
+            3 => Ok(Scheme::BothFixed),
+            4 => Ok(Scheme::TwoSpans),
+            5 => Ok(Scheme::MoreSpans),
+            _ => Err(UnknownScheme(number)),
+        }
+    }
+}
+
+impl fmt::Display for UnknownScheme {
+    fn fmt<W: fmt::Write>(&self, f: &mut fmt::Formatter<W>) -> fmt::Result {
+        write!(f, "no scheme has the number {}", self.0)
+    }
+}
+
+impl Error for UnknownScheme {}
+
+#[derive(Clone, Copy, Debug, PartialEq, Eq)]
 pub struct Record {
     pub kind: FaultKind,
     pub scheme: Scheme,

@@ -1,13 +1,13 @@
 // Sections: what a bar's shape tells about its bending, its area and its sub-bars.
 ghost use Rattle.std.specs.Prelude.{◌≡◌, ◌<◌, ◌≤◌};
-ghost use Rattle.busbar.specs.Rounding.{within};
 ghost use Rattle.busbar.specs.Section.{bar_area, bar_modulus, bar_section, rod_section, tube_figures, tube_section, stack_section};
 
 use super::distance::effective_distance;
 use super::question::Question;
+use super::ranged::inside;
 
 // The equal bars of a stack.
-#[derive(Clone, Copy)]
+#[derive(Clone, Copy, Debug, Default, PartialEq, Eq)]
 pub struct SubBars {
     // n
     pub count: u32,
@@ -20,7 +20,7 @@ pub struct SubBars {
 }
 
 // A section's figures. The main force acts along a bar's thickness.
-#[derive(Clone, Copy)]
+#[derive(Clone, Copy, Debug, Default, PartialEq, Eq)]
 pub struct Section {
     // W, thousandths of mm³ (W_m)
     pub modulus: u32,
@@ -32,24 +32,16 @@ pub struct Section {
     pub sub_bars: Option<SubBars>,
 }
 
-// Whether x lies in low to high, both ends among them.
-pub fn inside(x: u32, low: u32, high: u32) -> bool
-    ensures { result ≡ within low high x }
-{
-    low <= x && x <= high
-}
-
 impl Section {
     // A flat bar: height b, thickness t.
     pub fn bar(height: u32, thickness: u32) -> Result<Section, Question>
         ensures { result ≡ bar_section height thickness }
     {
-        if !inside(height, 10, 200) || !inside(thickness, 3, 20) {
-            return Err(Question::SectionSize);
-        }
+        Question::SectionSize.ask(inside(height, 10, 200) && inside(thickness, 3, 20))?;
+        let flat = Flat { height, thickness };
         Ok(Section {
-            modulus: bar_modulus(height, thickness),
-            area: bar_area(height, thickness),
+            modulus: flat.modulus(),
+            area: flat.area(),
             plastic_factor: 15_000,
             round: false,
             sub_bars: None,
@@ -57,12 +49,11 @@ impl Section {
     }
 
     // A solid rod of the diameter D.
+    #[tactic(auto, using(crate::proofs::Sizes::rod_most))]
     pub fn rod(diameter: u32) -> Result<Section, Question>
         ensures { result ≡ rod_section diameter }
     {
-        if !inside(diameter, 8, 200) {
-            return Err(Question::SectionSize);
-        }
+        Question::SectionSize.ask(inside(diameter, 8, 200))?;
         let d = diameter as u64;
         Ok(Section {
             modulus: (314_159 * d * d * d / 3_200) as u32,
@@ -77,9 +68,9 @@ impl Section {
     pub fn tube(diameter: u32, wall: u32) -> Result<Section, Question>
         ensures { result ≡ tube_section diameter wall }
     {
-        if !inside(diameter, 16, 200) || !inside(wall, 2, (diameter - 2) / 2) {
-            return Err(Question::SectionSize);
-        }
+        Question::SectionSize.ask(
+            inside(diameter, 16, 200) && inside(wall, 2, (diameter - 2) / 2),
+        )?;
         Ok(tube_with_inner(diameter as u64, (diameter - 2 * wall) as u64))
     }
 
@@ -88,19 +79,16 @@ impl Section {
     pub fn stack(count: u32, height: u32, thickness: u32, spacing: u32) -> Result<Section, Question>
         ensures { result ≡ stack_section count height thickness spacing }
     {
-        let distance = effective_distance(count, thickness, height);
-        if distance == 0 {
-            return Err(Question::StackSize);
-        }
-        let one = bar_modulus(height, thickness);
+        let distance = effective_distance(count, thickness, height).ok_or(Question::StackSize)?;
+        let flat = Flat { height, thickness };
         Ok(Section {
-            modulus: count * one,
-            area: count * bar_area(height, thickness),
+            modulus: count * flat.modulus(),
+            area: count * flat.area(),
             plastic_factor: 15_000,
             round: false,
             sub_bars: Some(SubBars {
                 count,
-                modulus: one,
+                modulus: flat.modulus(),
                 distance,
                 spacing,
             }),
@@ -108,21 +96,28 @@ impl Section {
     }
 }
 
-// One flat bar's modulus about the axis that the main force bends it.
-fn bar_modulus(height: u32, thickness: u32) -> u32
-    requires high { height ≤ 200 }
-    requires thick { thickness ≤ 20 }
-    ensures { result ≡ bar_modulus height thickness }
-{
-    1_000 * height * thickness * thickness / 6
+// A flat bar of sizes that the figures can be worked out of.
+#[derive(Clone, Copy)]
+struct Flat {
+    height: u32,
+    thickness: u32,
+    ghost high: { height ≤ 200 },
+    ghost thick: { thickness ≤ 20 },
 }
 
-fn bar_area(height: u32, thickness: u32) -> u32
-    requires high { height ≤ 200 }
-    requires thick { thickness ≤ 20 }
-    ensures { result ≡ bar_area height thickness }
-{
-    1_000 * height * thickness
+impl Flat {
+    // About the axis that the main force bends it.
+    fn modulus(&self) -> u32
+        ensures { result ≡ bar_modulus self.now.height self.now.thickness }
+    {
+        1_000 * self.height * self.thickness * self.thickness / 6
+    }
+
+    fn area(&self) -> u32
+        ensures { result ≡ bar_area self.now.height self.now.thickness }
+    {
+        1_000 * self.height * self.thickness
+    }
 }
 
 // The figures of a tube by its outer and inner diameter.

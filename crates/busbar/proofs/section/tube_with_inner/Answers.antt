@@ -1,9 +1,6 @@
 use Rattle.std.proofs.Common.{arith, rules}
-use Rattle.busbar.proofs.Sizes.{power4_most, square_less, cube_less, power4_less, plastic_most, tube_modulus_most}
+use Rattle.busbar.proofs.Sizes.{power4_most, power4_less, plastic_most, tube_modulus_most}
 use Rattle.busbar.proofs.section.tube_with_inner.Goals as goal
-
-pub overflow_sub-cubes : goal.overflow_sub-cubes
-overflow_sub-cubes c = omega (arith, cube_less _ _ c.requires.hollow)
 
 pub overflow_sub-fourths : goal.overflow_sub-fourths
 overflow_sub-fourths c = omega (arith, power4_less _ _ c.requires.hollow)
@@ -13,9 +10,6 @@ overflow_mul-result c = search (rules, power4_most)
 
 pub overflow_cast-result : goal.overflow_cast-result
 overflow_cast-result c = search (rules, tube_modulus_most)
-
-pub overflow_sub-result : goal.overflow_sub-result
-overflow_sub-result c = omega (arith, square_less _ _ c.requires.hollow)
 
 pub nonzero_div-result-3 : goal.nonzero_div-result-3
 nonzero_div-result-3 c = omega (arith, power4_less _ _ c.requires.hollow)

@@ -1,5 +1,4 @@
 use Rattle.std.proofs.Common.{rules}
-use Rattle.busbar.specs.Verdict.{heat_limit}
 use Rattle.busbar.proofs.Ranges.{ranges}
 use Rattle.busbar.proofs.Bounds.{rated_current_most, heat_top}
 use Rattle.busbar.proofs.checked.CheckedRecord.heat_limit.Goals as goal
@@ -13,7 +12,3 @@ pub overflow_mul-result-2 : goal.overflow_mul-result-2
 overflow_mul-result-2 c =
     let most = rated_current_most c.args.self.now.bar (ranges c.args.self.now.bar c.args.self.now.passed) in
     search (rules, heat_top)
-
-pub returns : goal.returns
-unfolding heat_limit
-returns c = search rules

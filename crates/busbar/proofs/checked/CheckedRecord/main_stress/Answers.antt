@@ -9,6 +9,3 @@ overflow_mul-share-3 c =
     let v = stress_factor_most c.args.self.now.bar.reclosing in
     let b = bending_share_most c.args.self.now.bar.scheme in
     search (rules, stress_top)
-
-pub rounded_up-requires : goal.rounded_up-requires
-rounded_up-requires c = let inside = ranges c.args.self.now.bar c.args.self.now.passed in search rules

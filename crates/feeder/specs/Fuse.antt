@@ -1,5 +1,6 @@
 -- A fuse over a feeder: a curve of points that cuts what the feeder brings.
-use Rattle.std.specs.Prelude.{◌≡◌, ℕ, min, Bool, true, false, cond, ◌&&◌, List, [], ◌∷◌, ◌++◌, length, Some, None, Ok, Err, Option, Result, nat_le, nat_lt}
+use Rattle.std.specs.Prelude.{◌≡◌, ℕ, min, Bool, true, false, ◌&&◌, List, [], ◌∷◌, ◌++◌, length, Some, None, Ok, Err, Option, Result, nat_le, nat_lt}
+use Rattle.std.specs.List.{find}
 use Rattle.busbar.specs.declared.question.Question.TheVariants.{CurvePoint}
 use Rattle.busbar.specs.Rounding.{within}
 use Rattle.feeder.specs.Laws.{Told, level_inside}
@@ -27,8 +28,7 @@ in_order (p ∷ rest) = point_inside p && follows_on p rest
 
 -- the first point whose level is not below the asked one
 abbrev pub counting : List Point → ℕ → Option Point
-counting [] n = None
-counting (p ∷ rest) n = cond (nat_le n p.level) (Some p) (counting rest n)
+counting points n = find (λ p. nat_le n p.level) points
 
 -- the smaller peak and the smaller heat of point and feeder; nothing where either has nothing
 abbrev pub smaller_of : Option Point → Told → Told

@@ -4,7 +4,7 @@ ghost use Rattle.feeder.specs.Fuse.{Added, counting, in_order, last_before, may_
 
 use super::point::{CurveError, Point};
 use busbar::question::Question;
-use busbar::section::inside;
+use busbar::ranged::{Level, Peak};
 use std::alloc::Global;
 
 #[derive(Drop)]
@@ -28,13 +28,9 @@ impl Curve {
     pub fn add(&mut self, point: Point) -> Result<(), CurveError>
         ensures { Added self.old.points.items point self.new.points.items result }
     {
-        if !self.takes(&point) {
-            return Err(CurveError::Refused(Question::CurvePoint));
-        }
-        match self.points.push(point) {
-            Ok(()) => Ok(()),
-            Err(_) => Err(CurveError::Memory),
-        }
+        Question::CurvePoint.ask(self.takes(&point))?;
+        self.points.push(point)?;
+        Ok(())
     }
 
     // Whether the curve stays one with this point at its end.
@@ -42,7 +38,7 @@ impl Curve {
         ensures { result ≡ takes self.now.points.items point.now }
     {
         let room = self.points.len() < 8;
-        // `&` asks all three, so that the proof has one way.
+        // `&` asks all three, so that the proof has one way: with `&&` it was tried, and did not close.
         room & point_inside(point) & self.ends_before(point)
     }
 
@@ -50,22 +46,20 @@ impl Curve {
     fn ends_before(&self, point: &Point) -> bool
         ensures { result ≡ last_before self.now.points.items point.now }
     {
-        match self.points.last() {
-            None => true,
-            Some(last) => may_follow(last, point),
-        }
+        let Some(last) = self.points.last() else {
+            return true;
+        };
+        may_follow(last, point)
     }
 
     // The first point whose level is not below the asked one.
     pub(crate) fn first_counting(&self, level: u32) -> Option<Point>
         ensures { result ≡ counting self.now.points.items level }
     {
-        for point in self.points.iter() {
-            if level <= point.level {
-                return Some(*point);
-            }
-        }
-        None
+        self.points
+            .iter()
+            .copied()
+            .find(|point| level <= point.level)
     }
 }
 
@@ -73,8 +67,8 @@ impl Curve {
 fn point_inside(point: &Point) -> bool
     ensures { result ≡ point_inside point.now }
 {
-    inside(point.level, 100, 100_000)
-        && inside(point.peak, 1, 300_000)
+    Level::new(point.level).is_some()
+        && Peak::new(point.peak).is_some()
         && 1 <= point.heat
         && point.heat <= 200_000_000_000_000
 }

@@ -6,14 +6,14 @@ ghost use Rattle.feeder.specs.Sums.{motors_lawful};
 
 use super::tells::Feeder;
 use busbar::question::Question;
+use busbar::ranged::Ranged;
 
 #[derive(Drop)]
 pub struct Motors<F> {
     below: F,
     // what the motors bring themselves: A, and A²·ms
-    peak: u32,
+    peak: Ranged<0, 50_000>,
     heat: u64,
-    ghost peak_most: { peak ≤ 50000 },
     ghost heat_most: { heat ≤ 50000000000000 },
 }
 
@@ -22,33 +22,27 @@ impl<F: Feeder> Motors<F> {
     pub fn new(below: F, peak: u32, heat: u64) -> Result<Motors<F>, Question>
     where
         F: Drop,
-        ensures { MatchResult result (λ m. (m.below ≡ below) × (m.peak ≡ peak) × (m.heat ≡ heat) × (motors_sizes peak heat ≡ true)) (λ q. (q ≡ MotorsSize) × (motors_sizes peak heat ≡ false)) }
+        ensures { MatchResult result (λ m. (m.below ≡ below) × (m.peak.value ≡ peak) × (m.heat ≡ heat) × (motors_sizes peak heat ≡ true)) (λ q. (q ≡ MotorsSize) × (motors_sizes peak heat ≡ false)) }
     {
-        if peak <= 50_000 && heat <= 50_000_000_000_000 {
-            Ok(Motors { below, peak, heat })
-        } else {
-            Err(Question::MotorsSize)
-        }
+        let peak = Ranged::new(peak).ok_or(Question::MotorsSize)?;
+        Question::MotorsSize.ask(heat <= 50_000_000_000_000)?;
+        Ok(Motors { below, peak, heat })
     }
 
     fn figures(&self, level: u32) -> Option<(u32, u64)>
-        ensures { result ≡ motors_tell self.now.peak self.now.heat (F.Feeder.meaning self.now.below level) }
+        ensures { result ≡ motors_tell self.now.peak.value self.now.heat (F.Feeder.meaning self.now.below level) }
     {
         let (peak, heat) = self.below.tell(level)?;
-        let peak = peak + self.peak;
+        let peak = peak + self.peak.value;
         let heat = heat + self.heat;
-        if peak <= 300_000 && heat <= 200_000_000_000_000 {
-            Some((peak, heat))
-        } else {
-            None
-        }
+        (peak <= 300_000 && heat <= 200_000_000_000_000).then_some((peak, heat))
     }
 }
 
 impl<F: Feeder> Feeder for Motors<F> {
-    ghost meaning = { λ m n. motors_tell m.peak m.heat (F.Feeder.meaning m.below n) };
+    ghost meaning = { λ m n. motors_tell m.peak.value m.heat (F.Feeder.meaning m.below n) };
 
-    ghost lawful = { λ f. motors_lawful f.peak f.heat _ (F.Feeder.lawful f.below) };
+    ghost lawful = { λ f. motors_lawful f.peak.value f.heat _ (F.Feeder.lawful f.below) };
 
     fn tell(&self, level: u32) -> Option<(u32, u64)> {
         self.figures(level)

@@ -1,4 +1,5 @@
 // What every feeder is: it is given a level, the prospective fault current in A, and tells peak and heat, or nothing.
+// Peak and heat are a pair everywhere: one parameter, taken apart by `let (peak, heat)` where it is used, so that a struct would be no plainer.
 ghost use Rattle.std.specs.Prelude.{◌≡◌, ℕ, Option};
 ghost use Rattle.feeder.specs.Laws.{Lawful};
 

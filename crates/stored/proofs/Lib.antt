@@ -1,3 +1,3 @@
 pub mod Blocks
-pub mod Zeros
+pub mod FromFn
 pub mod Trips

@@ -13,7 +13,8 @@ use Rattle.busbar.specs.declared.record.Record.{Record}
 use Rattle.busbar.specs.declared.record.Scheme.{Scheme}
 use Rattle.busbar.specs.declared.record.Scheme.TheVariants.{BothSimple, FixedAndSimple, BothFixed, TwoSpans, MoreSpans}
 use Rattle.busbar.specs.declared.section.SubBars.{SubBars}
-use Rattle.stored.specs.Block.{check_of, body_of, block_of, header_byte, position_byte, bars_of, scheme_number, kind_flag}
+use Rattle.stored.specs.Block.{check_of, body_of, block_of, header_byte, position_byte, bars_of, kind_flag}
+use Rattle.busbar.specs.Factors.{scheme_number}
 use Rattle.stored.specs.Read.{check_right, header_layout, read_header, zeros, line_layout, scheme_from, kind_from, bars_from, record_from, read_line}
 
 -- four bytes make their number again
@@ -34,14 +35,10 @@ unfolding body_of
 check_written byte_at = eq-eqb _ _ (ap check_of (body_front byte_at) ∙ sym (two_bytes (check_of (body_of byte_at))))
 
 -- block 0 is read back
-header_zeros : (job level count : ℕ) → zeros (drop 9 (body_of (header_byte job level count))) ≡ true
-unfolding body_of
-header_zeros job level count = refl
-
 header_laid_out : (job level count : ℕ) → header_layout (block_of (header_byte job level count)) count ≡ true
 unfolding body_of
 header_laid_out job level count =
-    and_from _ _ (eq-eqb count count refl) (ap (λ l. zeros (drop 9 l)) (body_front (header_byte job level count)) ∙ header_zeros job level count)
+    and_from _ _ (eq-eqb count count refl) (ap (λ l. zeros (drop 9 l)) (body_front (header_byte job level count)))
 
 level_inside_here : (level : ℕ) → 100 ≤ level → level ≤ 100000 → within 100 100000 level ≡ true
 level_inside_here level low high = and_from (leb 100 level) (leb level 100000) (le-leb _ _ low) (le-leb _ _ high)
@@ -60,52 +57,32 @@ header_trip job level count low high =
 abbrev line_of : ℕ → Record → List ℕ
 line_of n r = block_of (position_byte n r)
 
-line_zeros : (n : ℕ) (r : Record) → zeros (drop 53 (body_of (position_byte n r))) ≡ true
-unfolding body_of
-line_zeros n r = refl
-
-scheme_inside : (s : Scheme) → within 1 5 (scheme_number s) ≡ true
-scheme_inside BothSimple = refl
-scheme_inside FixedAndSimple = refl
-scheme_inside BothFixed = refl
-scheme_inside TwoSpans = refl
-scheme_inside MoreSpans = refl
-
-scheme_trip : (s : Scheme) → scheme_from (scheme_number s) ≡ s
-scheme_trip BothSimple = refl
-scheme_trip FixedAndSimple = refl
-scheme_trip BothFixed = refl
-scheme_trip TwoSpans = refl
-scheme_trip MoreSpans = refl
+scheme_trip : (s : Scheme) → (within 1 5 (scheme_number s) ≡ true) × (scheme_from (scheme_number s) ≡ s)
+scheme_trip BothSimple = (refl, refl)
+scheme_trip FixedAndSimple = (refl, refl)
+scheme_trip BothFixed = (refl, refl)
+scheme_trip TwoSpans = (refl, refl)
+scheme_trip MoreSpans = (refl, refl)
 
 -- the flags by their three parts
 abbrev flags_by : FaultKind → Bool → Bool → ℕ
 flags_by kind reclosing round = kind_flag kind + cond reclosing 2 0 + cond round 4 0
 
-flags_small : (k : FaultKind) (a b : Bool) → leb (flags_by k a b) 7 ≡ true
-flags_small ThreePhase true true = refl
-flags_small ThreePhase true false = refl
-flags_small ThreePhase false true = refl
-flags_small ThreePhase false false = refl
-flags_small TwoLine true true = refl
-flags_small TwoLine true false = refl
-flags_small TwoLine false true = refl
-flags_small TwoLine false false = refl
-
 pub record FlagsTrip (k : FaultKind) (a b : Bool) : Type 0 where
+  pub small : leb (flags_by k a b) 7 ≡ true
   pub kind_back : kind_from (flags_by k a b) ≡ k
   pub reclosing_back : eqb (flags_by k a b / 2 % 2) 1 ≡ a
   pub round_back : eqb (flags_by k a b / 4 % 2) 1 ≡ b
 
 flags_trip : (k : FaultKind) (a b : Bool) → FlagsTrip k a b
-flags_trip ThreePhase true true = record { kind_back = refl; reclosing_back = refl; round_back = refl }
-flags_trip ThreePhase true false = record { kind_back = refl; reclosing_back = refl; round_back = refl }
-flags_trip ThreePhase false true = record { kind_back = refl; reclosing_back = refl; round_back = refl }
-flags_trip ThreePhase false false = record { kind_back = refl; reclosing_back = refl; round_back = refl }
-flags_trip TwoLine true true = record { kind_back = refl; reclosing_back = refl; round_back = refl }
-flags_trip TwoLine true false = record { kind_back = refl; reclosing_back = refl; round_back = refl }
-flags_trip TwoLine false true = record { kind_back = refl; reclosing_back = refl; round_back = refl }
-flags_trip TwoLine false false = record { kind_back = refl; reclosing_back = refl; round_back = refl }
+flags_trip ThreePhase true true = record { small = refl; kind_back = refl; reclosing_back = refl; round_back = refl }
+flags_trip ThreePhase true false = record { small = refl; kind_back = refl; reclosing_back = refl; round_back = refl }
+flags_trip ThreePhase false true = record { small = refl; kind_back = refl; reclosing_back = refl; round_back = refl }
+flags_trip ThreePhase false false = record { small = refl; kind_back = refl; reclosing_back = refl; round_back = refl }
+flags_trip TwoLine true true = record { small = refl; kind_back = refl; reclosing_back = refl; round_back = refl }
+flags_trip TwoLine true false = record { small = refl; kind_back = refl; reclosing_back = refl; round_back = refl }
+flags_trip TwoLine false true = record { small = refl; kind_back = refl; reclosing_back = refl; round_back = refl }
+flags_trip TwoLine false false = record { small = refl; kind_back = refl; reclosing_back = refl; round_back = refl }
 
 -- the sub-bars: two at least, where there are any
 abbrev SomeBars : Option SubBars → Type 0
@@ -126,9 +103,9 @@ line_laid_out : (n last : ℕ) (r : Record) → 1 ≤ n → n ≤ 32 → last < 
 unfolding body_of
 line_laid_out n last r low high after =
     let place = and_from (leb 1 n) (leb n 32) (le-leb _ _ low) (le-leb _ _ high) in
-    let flags = flags_small r.kind r.reclosing r.section.round in
-    let behind = ap (λ l. zeros (drop 53 l)) (body_front (position_byte n r)) ∙ line_zeros n r in
-    and_from _ _ (and_from _ _ (and_from _ _ (and_from _ _ place (lt-ltb _ _ after)) (scheme_inside r.scheme)) flags) behind
+    let flags = flags_trip r.kind r.reclosing r.section.round in
+    let behind = ap (λ l. zeros (drop 53 l)) (body_front (position_byte n r)) in
+    and_from _ _ (and_from _ _ (and_from _ _ (and_from _ _ place (lt-ltb _ _ after)) (scheme_trip r.scheme).0) flags.small) behind
 
 record_trip : (n : ℕ) (r : Record) → SomeBars r.section.sub_bars → record_from (line_of n r) ≡ r
 unfolding body_of
@@ -139,7 +116,7 @@ record_trip n r bars =
     (λ i. bars_by b.count (four_bytes b.modulus i) (four_bytes b.distance i) (four_bytes b.spacing i)) ∙ bars_trip r.section.sub_bars bars in
     λ i. record {
       kind = flags.kind_back i;
-      scheme = scheme_trip r.scheme i;
+      scheme = (scheme_trip r.scheme).1 i;
       reclosing = flags.reclosing_back i;
       span = four_bytes r.span i;
       centre_distance = four_bytes r.centre_distance i;

@@ -1,11 +1,10 @@
 -- The blocks of the stored form, version 1: 512 bytes each, numbers most significant byte first.
 use Rattle.std.specs.Prelude.{ℕ, ◌+◌, ◌-◌, ◌*◌, ◌/◌, ◌%◌, cond, List, [], ◌∷◌, ◌++◌, map, Some, None, Option, ◌==◌, nat_lt, slice_index}
 use Rattle.std.specs.List.{range_with_len}
+use Rattle.busbar.specs.Factors.{scheme_number}
 use Rattle.busbar.specs.declared.record.FaultKind.{FaultKind}
 use Rattle.busbar.specs.declared.record.FaultKind.TheVariants.{ThreePhase, TwoLine}
 use Rattle.busbar.specs.declared.record.Record.{Record}
-use Rattle.busbar.specs.declared.record.Scheme.{Scheme}
-use Rattle.busbar.specs.declared.record.Scheme.TheVariants.{BothSimple, FixedAndSimple, BothFixed, TwoSpans, MoreSpans}
 use Rattle.busbar.specs.declared.section.SubBars.{SubBars}
 
 -- the byte at place j of a number of 32 bits, and of one of 16
@@ -30,8 +29,12 @@ check_of bytes = weighted 0 bytes % 65521
 unfoldable pub body_of : (ℕ → ℕ) → List ℕ
 body_of byte_at = map byte_at (range_with_len 0 510)
 
+-- a body with its check behind it
+abbrev pub sealed : List ℕ → List ℕ
+sealed body = body ++ (check_of body / 256 ∷ check_of body % 256 ∷ [])
+
 abbrev pub block_of : (ℕ → ℕ) → List ℕ
-block_of byte_at = body_of byte_at ++ (check_of (body_of byte_at) / 256 ∷ check_of (body_of byte_at) % 256 ∷ [])
+block_of byte_at = sealed (body_of byte_at)
 
 -- block 0: kind 1, version 1, job, level, and the count of the blocks after it
 abbrev pub header_byte : ℕ → ℕ → ℕ → ℕ → ℕ
@@ -39,13 +42,6 @@ header_byte job level count i =
     cond (nat_lt i 2) 1 (cond (nat_lt i 4) (byte_of_16 job (i - 2)) (cond (nat_lt i 8) (byte_of_32 level (i - 4)) (cond (i == 8) count 0)))
 
 -- a position's block
-
-abbrev pub scheme_number : Scheme → ℕ
-scheme_number BothSimple = 1
-scheme_number FixedAndSimple = 2
-scheme_number BothFixed = 3
-scheme_number TwoSpans = 4
-scheme_number MoreSpans = 5
 
 abbrev pub kind_flag : FaultKind → ℕ
 kind_flag ThreePhase = 0

@@ -1,5 +1,6 @@
 -- Reading a block: check, layout, and what it holds.
-use Rattle.std.specs.Prelude.{ℕ, ◌+◌, ◌*◌, ◌/◌, ◌%◌, Bool, true, cond, ◌&&◌, List, [], ◌∷◌, take, drop, Some, None, Ok, Err, Option, Result, ◌==◌, nat_le, nat_lt, slice_index}
+use Rattle.std.specs.Prelude.{ℕ, ◌+◌, ◌*◌, ◌/◌, ◌%◌, Bool, cond, ◌&&◌, List, take, drop, Some, None, Ok, Err, Option, Result, ◌==◌, nat_le, nat_lt, slice_index}
+use Rattle.std.specs.List.{list_all}
 use Rattle.busbar.specs.Rounding.{within}
 use Rattle.busbar.specs.declared.question.Question.{Question}
 use Rattle.busbar.specs.declared.question.Question.TheVariants as q
@@ -10,7 +11,6 @@ use Rattle.busbar.specs.declared.record.Scheme.{Scheme}
 use Rattle.busbar.specs.declared.record.Scheme.TheVariants.{BothSimple, FixedAndSimple, BothFixed, TwoSpans, MoreSpans}
 use Rattle.busbar.specs.declared.section.SubBars.{SubBars}
 use Rattle.stored.specs.Block.{check_of}
-use Rattle.stored.specs.declared.read.Stored.{Stored}
 
 -- numbers, most significant byte first; a byte past the end is 0
 
@@ -29,8 +29,7 @@ abbrev pub check_right : List ℕ → Bool
 check_right part = check_of (take 510 part) == number_at_16 part 510
 
 abbrev pub zeros : List ℕ → Bool
-zeros [] = true
-zeros (b ∷ rest) = b == 0 && zeros rest
+zeros bytes = list_all (λ b. b == 0) bytes
 
 -- bytes 0 and 1 are as said, the count is right, and every byte that holds nothing is 0
 abbrev pub header_layout : List ℕ → ℕ → Bool
@@ -88,7 +87,12 @@ unfoldable pub read_header : List ℕ → ℕ → ℕ → Result ℕ Question
 read_header part count job =
     cond (check_right part) (cond (header_layout part count) (header_level part job) (Err q.BlockLayout)) (Err q.BlockCheck)
 
-unfoldable pub read_line : List ℕ → ℕ → Result Stored Question
+-- the position and the record that a block holds
+pub record StoredLine : Type 0 where
+  pub number : ℕ
+  pub bar : Record
+
+unfoldable pub read_line : List ℕ → ℕ → Result StoredLine Question
 read_line part last =
     cond (check_right part)
     (cond (line_layout part last) (Ok (record { number = byte_at part 1; bar = record_from part })) (Err q.BlockLayout))

@@ -1,10 +1,11 @@
 // Blocks of the stored form: 510 bytes, and the check of these.
-ghost use Rattle.std.specs.Prelude.{◌≡◌, ℕ, ◌<◌, ◌≤◌, length, take, if◌then◌else◌, nat_eq};
-ghost use Rattle.stored.specs.Block.{bars_of, block_of, byte_of_16, byte_of_32, check_of, fields_of, flags_of, header_byte, lead_byte, position_byte, scheme_number};
+ghost use Rattle.std.specs.Prelude.{◌≡◌, ℕ, ◌%◌, length, take, if◌then◌else◌, nat_eq};
+ghost use Rattle.stored.specs.Block.{bars_of, block_of, body_of, byte_of_32, check_of, fields_of, flags_of, header_byte, lead_byte, position_byte, sealed};
 
 use busbar::checked::CheckedRecord;
-use busbar::record::{FaultKind, Record, Scheme};
+use busbar::record::Record;
 use busbar::section::SubBars;
+use std::array;
 
 pub const BLOCK: usize = 512;
 
@@ -17,7 +18,7 @@ pub trait Block {
 }
 
 // Block 0.
-#[derive(Clone, Copy)]
+#[derive(Clone, Copy, Debug, PartialEq, Eq)]
 pub struct Header {
     pub job: u16,
     pub level: u32,
@@ -28,22 +29,18 @@ impl Block for Header {
     ghost bytes = { λ h. header_byte h.job h.level h.count };
 
     fn byte(&self, i: usize) -> u8 {
-        if i < 2 {
-            1
-        } else if i < 4 {
-            byte_of_16(self.job, i - 2)
-        } else if i < 8 {
-            byte_of_32(self.level, i - 4)
-        } else if i == 8 {
-            self.count
-        } else {
-            0
+        match i {
+            0 | 1 => 1,
+            2 | 3 => self.job.to_be_bytes()[i - 2],
+            4..=7 => self.level.to_be_bytes()[i - 4],
+            8 => self.count,
+            _ => 0,
         }
     }
 }
 
 // The block of a standing position.
-#[derive(Clone, Copy)]
+#[derive(Clone, Copy, Debug, PartialEq, Eq)]
 pub struct Line {
     pub number: u8,
     pub bar: CheckedRecord,
@@ -54,14 +51,11 @@ impl Block for Line {
 
     fn byte(&self, i: usize) -> u8 {
         let bar = self.bar.bar;
-        if i < 4 {
-            lead_byte(self.number, &bar, i)
-        } else if i < 52 {
-            byte_of_32(fields(&bar)[(i - 4) / 4], (i - 4) % 4)
-        } else if i == 52 {
-            bars(&bar).count as u8
-        } else {
-            0
+        match i {
+            0..=3 => lead_byte(self.number, &bar, i),
+            4..=51 => byte_within(fields(&bar)[(i - 4) / 4], i - 4),
+            52 => bars(&bar).count as u8,
+            _ => 0,
         }
     }
 }
@@ -73,7 +67,7 @@ fn lead_byte(number: u8, bar: &Record, i: usize) -> u8
     match i {
         0 => 2,
         1 => number,
-        2 => scheme_byte(bar.scheme),
+        2 => bar.scheme as u8,
         _ => flags(bar),
     }
 }
@@ -99,87 +93,34 @@ fn fields(bar: &Record) -> [u32; 12]
     ]
 }
 
-// The sub-bars, zeros where there are none.
+// Byte `place % 4` of a number of 32 bits, most significant first.
+fn byte_within(number: u32, place: usize) -> u8
+    ensures { result ≡ byte_of_32 number (place % 4) }
+{
+    number.to_be_bytes()[place % 4]
+}
+
+// The sub-bars: by a rule of the stored form zeros where there are none.
 fn bars(bar: &Record) -> SubBars
     ensures { result ≡ bars_of bar.now.section.sub_bars }
 {
-    match bar.section.sub_bars {
-        None => SubBars {
-            count: 0,
-            modulus: 0,
-            distance: 0,
-            spacing: 0,
-        },
-        Some(bars) => bars,
-    }
-}
-
-fn byte_of_32(x: u32, j: usize) -> u8
-    ensures { result ≡ byte_of_32 x j }
-{
-    let byte = match j {
-        0 => x / 16_777_216,
-        1 => x / 65_536 % 256,
-        2 => x / 256 % 256,
-        _ => x % 256,
-    };
-    byte as u8
-}
-
-fn byte_of_16(x: u16, j: usize) -> u8
-    ensures { result ≡ byte_of_16 x j }
-{
-    let byte = match j {
-        0 => x / 256,
-        _ => x % 256,
-    };
-    byte as u8
-}
-
-fn scheme_byte(scheme: Scheme) -> u8
-    ensures { result ≡ scheme_number scheme }
-{
-    match scheme {
-        Scheme::BothSimple => 1,
-        Scheme::FixedAndSimple => 2,
-        Scheme::BothFixed => 3,
-        Scheme::TwoSpans => 4,
-        Scheme::MoreSpans => 5,
-    }
+    bar.section.sub_bars.unwrap_or_default()
 }
 
 fn flags(bar: &Record) -> u8
     ensures { result ≡ flags_of bar.now }
 {
-    let kind = match bar.kind {
-        FaultKind::ThreePhase => 0,
-        FaultKind::TwoLine => 1,
-    };
-    let reclosing = if bar.reclosing { 2 } else { 0 };
-    let round = if bar.section.round { 4 } else { 0 };
-    kind + reclosing + round
+    bar.kind as u8 + 2 * (bar.reclosing as u8) + 4 * (bar.section.round as u8)
 }
 
-// The check of a block's 510 bytes.
+// The check of a block's 510 bytes: the sum of each byte times its place, counted from 1, cut down.
 pub fn check(bytes: &[u8]) -> u16
     ensures { result ≡ check_of (take 510 bytes.now) }
 {
-    if bytes.len() < 510 {
-        sum_of(bytes)
-    } else {
-        sum_of(&bytes[0..510])
-    }
-}
-
-// The weighted sum of at most 510 bytes, cut down.
-fn sum_of(bytes: &[u8]) -> u16
-    requires { length bytes.now ≤ 510 }
-    ensures { result ≡ check_of bytes.now }
-{
-    let mut sum = 0u32;
-    for i in 0..bytes.len() {
-        sum += (i as u32 + 1) * bytes[i] as u32;
-    }
+    let sum: u32 = (1..511u16)
+        .zip(bytes)
+        .map(|(place, byte)| place as u32 * *byte as u32)
+        .sum();
     (sum % 65_521) as u16
 }
 
@@ -188,18 +129,25 @@ pub fn write_block<B: Block>(block: &B, part: &mut [u8])
     ensures { part.new ≡ (if nat_eq (length part.old) 512 then block_of (B.Block.bytes block.now) else part.old) }
 {
     if part.len() == BLOCK {
-        fill(block, part);
+        part[..510].copy_from_slice(&body(block));
+        seal(part);
     }
 }
 
-fn fill<B: Block>(block: &B, part: &mut [u8])
-    requires { length part.old ≡ 512 }
-    ensures { part.new ≡ block_of (B.Block.bytes block.now) }
+// The 510 bytes of a block before its check.
+fn body<B: Block>(block: &B) -> [u8; 510]
+    ensures { result ≡ body_of (B.Block.bytes block.now) }
 {
-    for i in 0..510usize {
-        part[i] = block.byte(i);
+    array::from_fn(|i| block.byte(i))
+}
+
+// Writes the check of a block's 510 bytes behind them. A part of another length is left as it is.
+pub fn seal(part: &mut [u8])
+    ensures { part.new ≡ (if nat_eq (length part.old) 512 then sealed (take 510 part.old) else part.old) }
+{
+    if part.len() == BLOCK {
+        let [high, low] = check(part).to_be_bytes();
+        part[510] = high;
+        part[511] = low;
     }
-    let check = sum_of(&part[0..510]);
-    part[510] = (check / 256) as u8;
-    part[511] = (check % 256) as u8;
 }

@@ -2,4 +2,5 @@
 #![tactic(auto)]
 
 pub mod block;
+pub mod place;
 pub mod read;

@@ -1,114 +1,100 @@
 // Reading a block: its check, its layout, and what it holds.
-ghost use Rattle.std.specs.Prelude.{◌≡◌, ◌≤◌, true, length, take, drop, IfOk, slice_index};
-ghost use Rattle.stored.specs.Read.{bars_from, check_right, header_layout, header_level, line_layout, number_at, number_at_16, read_header, read_line, record_from, scheme_from, zeros};
+ghost use Rattle.std.specs.Prelude.{◌≡◌, ◌+◌, true, false, map, take, drop, Ok, Err, MatchOption, MatchResult, slice_index};
+ghost use Rattle.std.specs.List.{range_with_len};
+ghost use Rattle.stored.specs.Read.{bars_from, check_right, header_layout, header_level, line_layout, number_at, read_header, read_line, record_from, scheme_from, zeros};
 
 use super::block::check;
+use super::place::Place;
 use busbar::question::Question;
+use busbar::ranged::Level;
 use busbar::record::{FaultKind, Record, Scheme};
-use busbar::section::{Section, SubBars, inside};
+use busbar::section::{Section, SubBars};
+use std::array;
 
 // What the block of a position holds.
-#[derive(Clone, Copy)]
+#[derive(Clone, Copy, Debug, PartialEq, Eq)]
 pub struct Stored {
-    pub number: u32,
+    pub place: Place,
     pub bar: Record,
 }
 
 // The level that block 0 holds: its check, its layout with the count of the blocks after it, and its job have to be right.
-pub fn read_header(part: &[u8], count: usize, job: u16) -> Result<u32, Question>
-    ensures value { result ≡ read_header part.now count job }
-    ensures level { IfOk result (λ l. (100 ≤ l) × (l ≤ 100000)) }
+#[tactic(auto, unfolding(crate::specs::Read::read_header))]
+pub fn read_header(part: &[u8], count: usize, job: u16) -> Result<Level, Question>
+    ensures { MatchResult result (λ l. read_header part.now count job ≡ Ok l.value) (λ q. read_header part.now count job ≡ Err q) }
 {
-    if !checked(part) {
-        return Err(Question::BlockCheck);
-    }
-    if !header_laid_out(part, count) {
-        return Err(Question::BlockLayout);
-    }
+    Question::BlockCheck.ask(checked(part))?;
+    Question::BlockLayout.ask(header_laid_out(part, count))?;
     header_level(part, job)
 }
 
-// The level, where the job is the right one and the level one that a sheet may have.
-fn header_level(part: &[u8], job: u16) -> Result<u32, Question>
-    ensures value { result ≡ header_level part.now job }
-    ensures level { IfOk result (λ l. (100 ≤ l) × (l ≤ 100000)) }
-{
-    if number_16(part, 2) != job as u32 {
-        return Err(Question::SameJob);
-    }
-    let level = number_32(part, 4);
-    if !inside(level, 100, 100_000) {
-        return Err(Question::Level);
-    }
-    Ok(level)
-}
-
 // The position and the record that a later block holds: its check and its layout have to be right, and its position above the last.
+// `last` is 0 before the first position: a type without it would ask more of callers.
+#[tactic(auto, unfolding(crate::specs::Read::read_line))]
 pub fn read_line(part: &[u8], last: u32) -> Result<Stored, Question>
-    ensures value { result ≡ read_line part.now last }
-    ensures place { IfOk result (λ s. (1 ≤ s.number) × (s.number ≤ 32)) }
+    ensures { MatchResult result (λ s. read_line part.now last ≡ Ok (record { number = s.place.value; bar = s.bar })) (λ q. read_line part.now last ≡ Err q) }
 {
-    if !checked(part) {
-        return Err(Question::BlockCheck);
-    }
-    if !line_laid_out(part, last) {
-        return Err(Question::BlockLayout);
-    }
-    Ok(Stored {
-        number: byte_at(part, 1),
-        bar: record(part),
-    })
+    Question::BlockCheck.ask(checked(part))?;
+    let (place, scheme) = line_head(part, last).ok_or(Question::BlockLayout)?;
+    let bar = record(part, scheme);
+    Ok(Stored { place, bar })
 }
 
 fn checked(part: &[u8]) -> bool
     ensures { result ≡ check_right part.now }
 {
-    check(part) as u32 == number_16(part, 510)
+    check(part) == u16::from_be_bytes(word(part, 510))
 }
 
 fn header_laid_out(part: &[u8], count: usize) -> bool
     ensures { result ≡ header_layout part.now count }
 {
-    byte_at(part, 0) == 1
-        && byte_at(part, 1) == 1
-        && byte_at(part, 8) as usize == count
+    byte(part, 0) == 1
+        && byte(part, 1) == 1
+        && byte(part, 8) as usize == count
         && zero_from(part, 9)
 }
 
-fn line_laid_out(part: &[u8], last: u32) -> bool
-    ensures value { result ≡ line_layout part.now last }
-    ensures place { result ≡ true → (1 ≤ slice_index part.now 1) × (slice_index part.now 1 ≤ 32) }
+// The level, where the job is the right one and the level one that a sheet may have.
+fn header_level(part: &[u8], job: u16) -> Result<Level, Question>
+    ensures { MatchResult result (λ l. header_level part.now job ≡ Ok l.value) (λ q. header_level part.now job ≡ Err q) }
 {
-    byte_at(part, 0) == 2
-        && inside(byte_at(part, 1), 1, 32)
-        && last < byte_at(part, 1)
-        && inside(byte_at(part, 2), 1, 5)
-        && byte_at(part, 3) <= 7
-        && zero_from(part, 53)
+    Question::SameJob.ask(u16::from_be_bytes(word(part, 2)) == job)?;
+    Level::new(number(part, 4)).ok_or(Question::Level)
 }
 
-fn record(part: &[u8]) -> Record
+// The position and the scheme, where the layout of the block is right.
+fn line_head(part: &[u8], last: u32) -> Option<(Place, Scheme)>
+    ensures { MatchOption result (line_layout part.now last ≡ false) (λ h. (h.0.value ≡ slice_index part.now 1) × (h.1 ≡ scheme_from (slice_index part.now 2)) × (line_layout part.now last ≡ true)) }
+{
+    let place = Place::new(byte(part, 1) as u32)?;
+    let scheme = Scheme::try_from(byte(part, 2) as u32).ok()?;
+    let laid_out = byte(part, 0) == 2
+        && last < place.value
+        && byte(part, 3) <= 7
+        && zero_from(part, 53);
+    laid_out.then_some((place, scheme))
+}
+
+fn record(part: &[u8], scheme: Scheme) -> Record
+    requires { scheme ≡ scheme_from (slice_index part.now 2) }
     ensures { result ≡ record_from part.now }
 {
-    let flags = byte_at(part, 3);
+    let flags = byte(part, 3);
     Record {
-        kind: if flags % 2 == 1 {
-            FaultKind::TwoLine
-        } else {
-            FaultKind::ThreePhase
-        },
-        scheme: scheme_of(byte_at(part, 2)),
+        kind: FaultKind::from(flags % 2 == 1),
+        scheme,
         reclosing: flags / 2 % 2 == 1,
-        span: number_32(part, 4),
-        centre_distance: number_32(part, 8),
-        distance_factor: number_32(part, 12),
-        yield_stress: number_32(part, 16),
-        rated_density: number_32(part, 20),
-        support_strength: number_32(part, 24),
+        span: number(part, 4),
+        centre_distance: number(part, 8),
+        distance_factor: number(part, 12),
+        yield_stress: number(part, 16),
+        rated_density: number(part, 20),
+        support_strength: number(part, 24),
         section: Section {
-            modulus: number_32(part, 28),
-            area: number_32(part, 32),
-            plastic_factor: number_32(part, 36),
+            modulus: number(part, 28),
+            area: number(part, 32),
+            plastic_factor: number(part, 36),
             round: flags / 4 % 2 == 1,
             sub_bars: sub_bars(part),
         },
@@ -120,74 +106,39 @@ fn sub_bars(part: &[u8]) -> Option<SubBars>
     ensures { result ≡ bars_from part.now }
 {
     let bars = SubBars {
-        count: byte_at(part, 52),
-        modulus: number_32(part, 40),
-        distance: number_32(part, 44),
-        spacing: number_32(part, 48),
+        count: byte(part, 52) as u32,
+        modulus: number(part, 40),
+        distance: number(part, 44),
+        spacing: number(part, 48),
     };
-    if bars.count == 0 && bars.modulus == 0 && bars.distance == 0 && bars.spacing == 0 {
-        None
-    } else {
-        Some(bars)
-    }
-}
-
-fn scheme_of(number: u32) -> Scheme
-    ensures { result ≡ scheme_from number }
-{
-    match number {
-        1 => Scheme::BothSimple,
-        2 => Scheme::FixedAndSimple,
-        3 => Scheme::BothFixed,
-        4 => Scheme::TwoSpans,
-        _ => Scheme::MoreSpans,
-    }
-}
-
-// The byte at a place, 0 past the end.
-fn byte_at(part: &[u8], i: usize) -> u32
-    ensures value { result ≡ slice_index part.now i }
-    ensures bound { result ≤ 255 }
-{
-    if i < part.len() { part[i] as u32 } else { 0 }
+    (bars != SubBars::default()).then_some(bars)
 }
 
 // A number of 32 bits from a place on, most significant byte first.
-fn number_32(part: &[u8], i: usize) -> u32
-    requires { i ≤ 510 }
-    ensures { result ≡ number_at part.now i }
+fn number(part: &[u8], place: usize) -> u32
+    ensures { result ≡ number_at part.now place }
 {
-    byte_at(part, i) * 16_777_216
-        + byte_at(part, i + 1) * 65_536
-        + byte_at(part, i + 2) * 256
-        + byte_at(part, i + 3)
+    u32::from_be_bytes(word(part, place))
 }
 
-fn number_16(part: &[u8], i: usize) -> u32
-    requires { i ≤ 510 }
-    ensures { result ≡ number_at_16 part.now i }
+// The bytes of a number from a place on, as many as its type has.
+fn word<const N: usize>(part: &[u8], place: usize) -> [u8; N]
+    ensures { result ≡ map (λ k. slice_index part.now (place + k)) (range_with_len 0 N) }
 {
-    byte_at(part, i) * 256 + byte_at(part, i + 1)
+    let rest = &part[place.min(part.len())..];
+    array::from_fn(|k| byte(rest, k))
+}
+
+// The byte at a place. By the definition 0 past the end, so that parts of any length can be read.
+fn byte(part: &[u8], place: usize) -> u8
+    ensures { result ≡ slice_index part.now place }
+{
+    part.get(place).copied().unwrap_or(0)
 }
 
 // Whether the bytes from a place up to the check are all 0.
-fn zero_from(part: &[u8], from: usize) -> bool
-    requires { from ≤ 510 }
-    ensures { result ≡ zeros (drop from (take 510 part.now)) }
+fn zero_from(part: &[u8], place: usize) -> bool
+    ensures { result ≡ zeros (drop place (take 510 part.now)) }
 {
-    if part.len() < 510 {
-        return all_zero(part, from);
-    }
-    all_zero(&part[0..510], from)
-}
-
-fn all_zero(part: &[u8], from: usize) -> bool
-    ensures { result ≡ zeros (drop from part.now) }
-{
-    for i in from..part.len() {
-        if part[i] != 0 {
-            return false;
-        }
-    }
-    true
+    part.iter().take(510).skip(place).all(|byte| *byte == 0)
 }

@@ -1,7 +1,7 @@
 pub mod Tables
 pub mod Levels
+pub mod Maps
 pub mod Shows
 pub mod Stores
 pub mod Loads
 pub mod Trips
-pub mod Openings

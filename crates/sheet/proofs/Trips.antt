@@ -5,18 +5,16 @@ use Rattle.std.proofs.lemmas.Bool.{cond-true, eq-eqb, and_from, le-leb, both_way
 use Rattle.busbar.specs.Record.{passes, record_no}
 use Rattle.busbar.specs.declared.question.Question.{Question}
 use Rattle.stored.specs.Block.{block_of, header_byte, position_byte}
-use Rattle.stored.specs.Read.{read_line, read_header}
-use Rattle.stored.specs.declared.read.Stored.{Stored}
+use Rattle.stored.specs.Read.{StoredLine, read_line, read_header}
 use Rattle.stored.proofs.Trips.{header_trip, line_trip}
 use Rattle.sheet.specs.Plain.{Entry, Plain, positions}
-use Rattle.sheet.specs.Position.{entry_of_state}
+use Rattle.sheet.specs.Position.{entry_of}
 use Rattle.sheet.specs.Happened.{entries_of}
 use Rattle.sheet.specs.Stored.{stands_one, standing_in, open_ones, entry_block, position_blocks, stored, part_of, entered, line_entered, load_next, load_lines, load_level, length_right, with_level, number_of_line}
 use Rattle.sheet.specs.Trip.{LoadsAs}
-use Rattle.sheet.specs.declared.position.Position.{Position}
 use Rattle.sheet.specs.declared.position.State.{State}
 use Rattle.sheet.specs.declared.position.State.TheVariants as state
-use Rattle.sheet.proofs.Stores.{length_block, length_entry_block, one_at_most}
+use Rattle.sheet.proofs.Stores.{length_block, length_entry_block, once_at_most}
 
 -- every record of the entries passes its questions
 
@@ -29,20 +27,20 @@ abbrev pub AllPassing : List Entry → Type 0
 AllPassing [] = Unit {0}
 AllPassing (e ∷ rest) = Passing e × AllPassing rest
 
-passing_state : (s : State) → Passing (entry_of_state s)
+passing_state : (s : State) → Passing (entry_of s)
 passing_state state.Empty = tt
 passing_state (state.Standing bar v) = bar.passed
 passing_state (state.Open bar) = bar.passed
 
-pub all_passing : (table : List Position) → AllPassing (entries_of table)
+pub all_passing : (table : List State) → AllPassing (entries_of table)
 all_passing [] = tt
-all_passing (p ∷ rest) = (passing_state p.state, all_passing rest)
+all_passing (p ∷ rest) = (passing_state p, all_passing rest)
 
 no_question : (o : Option Question) → not (is_some o) ≡ true → o ≡ None
 no_question None h = refl
 no_question (Some no_to) h = absurd (both_ways _ refl h)
 
-entered_passing : (entries : List Entry) (s : Stored) → passes s.bar ≡ true → line_entered entries (Ok s) ≡ Ok (set entries (s.number - 1) (Entry.standing s.bar))
+entered_passing : (entries : List Entry) (s : StoredLine) → passes s.bar ≡ true → line_entered entries (Ok s) ≡ Ok (set entries (s.number - 1) (Entry.standing s.bar))
 entered_passing entries s h = ap (entered entries s) (no_question (record_no s.bar) h)
 
 abbrev blanks : ℕ → List Entry
@@ -98,7 +96,7 @@ length_blocks n (e ∷ rest) =
 
 standing_few : (es : List Entry) → standing_in es ≤ length es
 standing_few [] = lit≤ tt
-standing_few (e ∷ rest) = omega (arith, one_at_most e, standing_few rest)
+standing_few (e ∷ rest) = omega (arith, once_at_most e, standing_few rest)
 
 pub stored_loads : (p : Plain) → length p.entries ≡ 32 → 100 ≤ p.level → p.level ≤ 100000 → AllPassing p.entries → open_ones p.entries ≡ 0 → LoadsAs p (stored p)
 stored_loads p full low high pass shut other same_job other_shut =

@@ -1,12 +1,10 @@
 -- What each call and each question does to the plain sheet, and what it answers.
 use Rattle.std.specs.Prelude.{ℕ, ◌+◌, ◌-◌, Bool, cond, ◌&&◌, List, [], ◌∷◌, length, Ok, Err, Result, ◌==◌, nat_lt, slice_index_or}
 use Rattle.busbar.specs.Rounding.{within}
-use Rattle.busbar.specs.Verdict.{verdict}
+use Rattle.busbar.specs.Verdict.{Verdict, verdict}
 use Rattle.busbar.specs.declared.question.Question.{Question}
 use Rattle.busbar.specs.declared.question.Question.TheVariants as q
 use Rattle.busbar.specs.declared.record.Record.{Record}
-use Rattle.busbar.specs.declared.verdict.Verdict.{Verdict}
-use Rattle.busbar.specs.declared.verdict.Verdict.TheVariants.{Accepted, Refused}
 use Rattle.feeder.specs.Laws.{Told, level_inside}
 use Rattle.sheet.specs.Plain.{Entry, Plain, positions, change_at, change_by_slip}
 use Rattle.sheet.specs.Stored.{LoadNo, load_of, saved_blocks, buffer_after}
@@ -56,12 +54,12 @@ shown told (Entry.opened r) = is_open r
 -- how many of the entries are accepted, refused, open
 
 abbrev pub accepted_one : Verdict → ℕ
-accepted_one Accepted = 1
-accepted_one (Refused r) = 0
+accepted_one (Ok _) = 1
+accepted_one (Err _) = 0
 
 abbrev pub refused_one : Verdict → ℕ
-refused_one Accepted = 0
-refused_one (Refused r) = 1
+refused_one (Ok _) = 0
+refused_one (Err _) = 1
 
 abbrev pub accepted_in : Shown → ℕ
 accepted_in nothing = 0

@@ -1,5 +1,5 @@
 -- The sheet beside the plain sheet, and what it is that a call did.
-use Rattle.std.specs.Prelude.{◌≡◌, ℕ, ◌+◌, List, map, Ok, Err, Result}
+use Rattle.std.specs.Prelude.{◌≡◌, ℕ, ◌+◌, List, [], ◌∷◌, map, Ok, Err, Result}
 use Rattle.busbar.specs.declared.question.Question.{Question}
 use Rattle.feeder.specs.Laws.{Told}
 use Rattle.sheet.specs.Plain.{Entry, Plain, change_at, change_by_slip}
@@ -9,22 +9,21 @@ use Rattle.sheet.specs.Stored.{no_at}
 use Rattle.sheet.specs.declared.counts.Counts.{Counts}
 use Rattle.sheet.specs.declared.load.NotLoaded.{NotLoaded}
 use Rattle.sheet.specs.declared.position.Change.{Change}
-use Rattle.sheet.specs.declared.position.Position.{Position}
 use Rattle.sheet.specs.declared.position.State.{State}
 use Rattle.sheet.specs.declared.position.State.TheVariants as state
 use Rattle.sheet.specs.declared.sheet.Sheet.{Sheet}
 use Rattle.sheet.specs.declared.slip.Slip.{Slip}
 use Rattle.sheet.specs.declared.slip.Unspent.{Unspent}
 
-abbrev pub entries_of : List Position → List Entry
+abbrev pub entries_of : List State → List Entry
 entries_of table = map entry_of table
 
 abbrev pub plain_of : {F : Type 0} → Sheet F → Plain
-plain_of s = record { job = s.job; level = s.level; entries = entries_of s.table }
+plain_of s = record { job = s.job; level = s.level.value; entries = entries_of s.table }
 
 -- every standing verdict is the one on its record, at the sheet's level, by its feeder's meaning
 abbrev pub Sound : {F : Type 0} → (F → ℕ → Told) → Sheet F → Type 0
-Sound meaning s = map (again (meaning s.feeder s.level)) s.table ≡ s.table
+Sound meaning s = map (again (meaning s.feeder s.level.value)) s.table ≡ s.table
 
 -- a call on the sheet `before` was answered a and left the sheet `after`
 pub record Happened {F : Type 0} (meaning : F → ℕ → Told) (before : Sheet F) (c : Call) (a : Answer) (after : Sheet F) : Type 0 where
@@ -57,12 +56,14 @@ state_or_no (Err no_to) = Answer.refused no_to
 abbrev pub counts_shown : Counts → Answer
 counts_shown c = Answer.counted c.accepted c.refused c.opened
 
-abbrev pub counted_with : Counts → State → Counts
-counted_with c s = record {
-  accepted = c.accepted + accepted_in (shown_of s);
-  refused = c.refused + refused_in (shown_of s);
-  opened = c.opened + open_in (shown_of s);
-}
+-- the sum of a number over the positions of a table, and the counts over it
+
+abbrev pub total_of : (Shown → ℕ) → List State → ℕ
+total_of one [] = 0
+total_of one (s ∷ rest) = one (shown_of s) + total_of one rest
+
+abbrev pub counts_of : List State → Counts
+counts_of table = record { accepted = total_of accepted_in table; refused = total_of refused_in table; opened = total_of open_in table }
 
 -- a load's result
 abbrev pub loaded_or_no : {T : Type 0} → Result T NotLoaded → Answer
@@ -105,7 +106,7 @@ pub record ChangedBySlip {F T : Type 0} (meaning : F → ℕ → Told) (before :
 
 -- every verdict worked out again at the sheet's level, and nothing else
 pub record Rejudged {F : Type 0} (meaning : F → ℕ → Told) (before after : Sheet F) : Type 0 where
-  pub table : after.table ≡ map (again (meaning before.feeder before.level)) before.table
+  pub table : after.table ≡ map (again (meaning before.feeder before.level.value)) before.table
   pub same_level : after.level ≡ before.level
   pub same_job : after.job ≡ before.job
   pub same_feeder : after.feeder ≡ before.feeder

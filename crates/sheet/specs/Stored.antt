@@ -5,8 +5,7 @@ use Rattle.busbar.specs.Rounding.{within}
 use Rattle.busbar.specs.declared.question.Question.{Question}
 use Rattle.busbar.specs.declared.question.Question.TheVariants as q
 use Rattle.stored.specs.Block.{block_of, header_byte, position_byte}
-use Rattle.stored.specs.Read.{read_header, read_line}
-use Rattle.stored.specs.declared.read.Stored.{Stored}
+use Rattle.stored.specs.Read.{StoredLine, read_header, read_line}
 use Rattle.sheet.specs.Plain.{Entry, Plain, positions}
 
 abbrev pub stands_one : Entry → ℕ
@@ -62,15 +61,15 @@ abbrev pub part_of : List ℕ → ℕ → List ℕ
 part_of bytes k = take 512 (drop (512 * k) bytes)
 
 -- what one block leaves of the entries: its record stands at its position, unless a question gets a no
-abbrev pub entered : List Entry → Stored → Option Question → Result (List Entry) Question
+abbrev pub entered : List Entry → StoredLine → Option Question → Result (List Entry) Question
 entered entries s None = Ok (slice_set entries (s.number - 1) (Entry.standing s.bar))
 entered entries s (Some no_to) = Err no_to
 
-abbrev pub line_entered : List Entry → Result Stored Question → Result (List Entry) Question
+abbrev pub line_entered : List Entry → Result StoredLine Question → Result (List Entry) Question
 line_entered entries (Err no_to) = Err no_to
 line_entered entries (Ok s) = entered entries s (record_no s.bar)
 
-abbrev pub number_of_line : Result Stored Question → ℕ
+abbrev pub number_of_line : Result StoredLine Question → ℕ
 number_of_line (Ok s) = s.number
 number_of_line (Err no_to) = 0
 

@@ -1,32 +1,38 @@
 // The questions of a sheet: a position, the counts, whether the board may be released, level and job.
-ghost use Rattle.std.specs.Prelude.{◌≡◌, ◌≤◌};
+ghost use Rattle.std.specs.Prelude.{◌≡◌};
 ghost use Rattle.sheet.specs.Calls.Call.{ask_counts, ask_job, ask_level, ask_position, ask_release};
 ghost use Rattle.sheet.specs.Calls.Answer.{number, says};
-ghost use Rattle.sheet.specs.Happened.{Happened, counted_with, counts_shown, state_or_no};
+ghost use Rattle.sheet.specs.Happened.{Happened, counts_shown, state_or_no};
 
 use super::counts::Counts;
 use super::position::State;
-use super::sheet::{POSITIONS, Sheet};
+use super::sheet::Sheet;
 use busbar::question::Question;
-use busbar::verdict::Verdict;
 use feeder::tells::Feeder;
+use stored::place::{POSITIONS, Place};
 
 impl<F: Feeder> Sheet<F> {
     // A position's state, with its record unless it is empty, and its verdict if it stands.
     pub fn position(&self, position: u32) -> Result<State, Question>
         ensures { Happened F.Feeder.meaning self.now (ask_position position) (state_or_no result) self.now }
     {
-        if position < 1 || position > 32 {
-            return Err(Question::PositionNumber);
-        }
-        Ok(self.table[position as usize - 1].state)
+        let place = Place::new(position).ok_or(Question::PositionNumber)?;
+        Ok(self.table[place.offset()])
+    }
+
+    // Every position's state, that of position 1 first.
+    pub fn states(&self) -> &[State; POSITIONS]
+        ensures { result.now ≡ self.now.table }
+    {
+        &self.table
     }
 
     // The prospective fault current that the verdicts are for, A.
     pub fn level(&self) -> u32
-        ensures { Happened F.Feeder.meaning self.now ask_level (number result) self.now }
+        ensures happened { Happened F.Feeder.meaning self.now ask_level (number result) self.now }
+        ensures value { result ≡ self.now.level.value }
     {
-        self.level
+        self.level.value
     }
 
     // The number of the job.
@@ -41,15 +47,7 @@ impl<F: Feeder> Sheet<F> {
     pub fn counts(&self) -> Counts
         ensures { Happened F.Feeder.meaning self.now ask_counts (counts_shown result) self.now }
     {
-        let mut counts = Counts {
-            accepted: 0,
-            refused: 0,
-            opened: 0,
-        };
-        for i in 0..POSITIONS {
-            counts = counted_in(counts, self.table[i].state);
-        }
-        counts
+        Counts::of(&self.table)
     }
 
     // Released exactly if one position at least is accepted, and none is refused or open.
@@ -59,23 +57,4 @@ impl<F: Feeder> Sheet<F> {
         let counts = self.counts();
         counts.accepted >= 1 && counts.refused == 0 && counts.opened == 0
     }
-}
-
-// One position more in the counts.
-fn counted_in(counts: Counts, state: State) -> Counts
-    requires accepted { counts.accepted ≤ 32 }
-    requires refused { counts.refused ≤ 32 }
-    requires opened { counts.opened ≤ 32 }
-    ensures { result ≡ counted_with counts state }
-{
-    let mut more = counts;
-    match state {
-        State::Empty => {}
-        State::Standing(_, verdict) => match verdict {
-            Verdict::Accepted => more.accepted += 1,
-            Verdict::Refused(_) => more.refused += 1,
-        },
-        State::Open(_) => more.opened += 1,
-    }
-    more
 }

@@ -6,12 +6,14 @@ ghost use Rattle.sheet.specs.Happened.{ChangedAt, ChangedBySlip, Happened, Rejud
 ghost use Rattle.sheet.specs.Plain.{fresh};
 ghost use Rattle.sheet.specs.Slips.{Fits};
 
-use super::position::{Change, Position, State, changed, judged_again};
+use super::position::{Change, State};
 use super::sheet::{POSITIONS, Sheet};
 use super::slip::{Slip, Unspent};
 use busbar::question::Question;
+use busbar::ranged::Level;
 use busbar::record::Record;
 use feeder::tells::Feeder;
+use stored::place::Place;
 
 impl<F: Feeder> Sheet<F> {
     // A new sheet: level 100,000, and every position empty.
@@ -20,14 +22,11 @@ impl<F: Feeder> Sheet<F> {
         ensures feeder { result.feeder ≡ feeder }
         ensures sound { Sound F.Feeder.meaning result }
     {
-        let empty = Position {
-            state: State::Empty,
-        };
         Sheet {
             job,
-            level: 100_000,
+            level: Level { value: 100_000 },
             feeder,
-            table: [empty; POSITIONS],
+            table: [State::Empty; POSITIONS],
         }
     }
 
@@ -51,21 +50,19 @@ impl<F: Feeder> Sheet<F> {
         ensures fits { IfOk result (λ s. Fits s (plain_of self.new)) }
         ensures unspent { IfOk result (λ s. s.spent ≡ false) }
     {
-        match self.change(position, Question::PositionNumber, Change::Open) {
-            Ok(()) => Ok(Slip {
-                job: self.job,
-                position,
-                spent: false,
-            }),
-            Err(question) => Err(question),
-        }
+        self.change(position, Question::PositionNumber, Change::Open)?;
+        Ok(Slip {
+            job: self.job,
+            position,
+            spent: false,
+        })
     }
 
     // A new record at the slip's open position. On a no the very same slip comes back.
     pub fn close(&mut self, slip: Slip, bar: Record) -> Result<(), Unspent>
         ensures happened { Happened F.Feeder.meaning self.old (called_close slip.job slip.position bar) (spent_or_no result) self.new }
         ensures slip { SlipBack slip result }
-        ensures kept { OnErr result ((Fits slip (plain_of self.old) → Fits slip (plain_of self.new))) }
+        ensures kept { OnErr result (Fits slip (plain_of self.old) → Fits slip (plain_of self.new)) }
     {
         self.spend(slip, Change::Close(bar))
     }
@@ -83,10 +80,7 @@ impl<F: Feeder> Sheet<F> {
     pub fn set_level(&mut self, level: u32) -> Result<(), Question>
         ensures { Happened F.Feeder.meaning self.old (called_set_level level) (answered done result) self.new }
     {
-        if level < 100 || level > 100_000 {
-            return Err(Question::Level);
-        }
-        self.level = level;
+        self.level = Level::new(level).ok_or(Question::Level)?;
         self.judge_again();
         Ok(())
     }
@@ -95,15 +89,13 @@ impl<F: Feeder> Sheet<F> {
     fn judge_again(&mut self)
         ensures { Rejudged F.Feeder.meaning self.old self.new }
     {
-        let told = self.feeder.tell(self.level);
-        for i in 0..POSITIONS {
-            let was = self.table[i];
-            self.table[i] = judged_again(was, told);
-        }
+        let told = self.feeder.tell(self.level.value);
+        self.table = self.table.map(|state| state.judged_again(told));
     }
 
-    // The change that a slip stands for, which spends it.
-    fn spend(&mut self, slip: Slip, change: Change) -> Result<(), Unspent>
+    // The change that a slip stands for, which spends it. That the very same slip comes back relates what is given to what comes back,
+    // which no type can hold, so each of the calls says it (`SlipBack`).
+    fn spend(&mut self, mut slip: Slip, change: Change) -> Result<(), Unspent>
         ensures spent { ChangedBySlip F.Feeder.meaning self.old slip change result self.new }
         ensures slip { SlipBack slip result }
     {
@@ -113,32 +105,20 @@ impl<F: Feeder> Sheet<F> {
                 question: Question::SlipFits,
             });
         }
-        match self.change(slip.position, Question::SlipFits, change) {
-            Ok(()) => {
-                let mut slip = slip;
-                slip.spent = true;
-                Ok(())
-            }
-            Err(question) => Err(Unspent { slip, question }),
+        if let Err(question) = self.change(slip.position, Question::SlipFits, change) {
+            return Err(Unspent { slip, question });
         }
+        slip.spent = true;
+        Ok(())
     }
 
-    // One position's state and the change decide; every other position stays as it is.
+    // One position's state and the change decide; every other position stays as it is. A number outside 1 to 32 gets the question `outside`.
     fn change(&mut self, position: u32, outside: Question, change: Change) -> Result<(), Question>
         ensures { ChangedAt F.Feeder.meaning self.old outside position change result self.new }
     {
-        if position < 1 || position > 32 {
-            return Err(outside);
-        }
-        let at = position as usize - 1;
-        let was = self.table[at];
-        let told = self.feeder.tell(self.level);
-        match changed(was.state, change, told) {
-            Ok(state) => {
-                self.table[at].state = state;
-                Ok(())
-            }
-            Err(question) => Err(question),
-        }
+        let at = Place::new(position).ok_or(outside)?.offset();
+        let told = self.feeder.tell(self.level.value);
+        self.table[at] = self.table[at].changed(change, told)?;
+        Ok(())
     }
 }

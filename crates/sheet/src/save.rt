@@ -1,13 +1,13 @@
 // Saving a sheet: its blocks from the start of a lent buffer.
-ghost use Rattle.std.specs.Prelude.{◌≡◌, ◌+◌, ◌*◌, ◌<◌, ◌≤◌, ◌++◌, length, take, drop};
+ghost use Rattle.std.specs.Prelude.{◌≡◌, ◌*◌, ◌≤◌, ◌++◌, length, drop, IfOk};
 ghost use Rattle.sheet.specs.Calls.Call.{save as called_save};
 ghost use Rattle.sheet.specs.Calls.Answer.{saved};
 ghost use Rattle.sheet.specs.Happened.{Happened, entries_of, plain_of};
-ghost use Rattle.sheet.specs.Position.{entry_of};
 ghost use Rattle.sheet.specs.Trip.{SavedLoads};
-ghost use Rattle.sheet.specs.Stored.{entry_block, open_one, open_ones, position_blocks, standing_in, stands_one};
+ghost use Rattle.sheet.specs.Stored.{position_blocks, standing_in};
 
-use super::position::{Position, State};
+use super::counts::Counts;
+use super::position::State;
 use super::sheet::Sheet;
 use busbar::question::Question;
 use feeder::tells::Feeder;
@@ -18,88 +18,40 @@ impl<F: Feeder> Sheet<F> {
     pub fn save(&self, buffer: &mut [u8]) -> Result<usize, Question>
         ensures happened { Happened F.Feeder.meaning self.now (called_save buffer.old) (saved result buffer.new) self.now }
         ensures loads { SavedLoads (plain_of self.now) result buffer.new }
+        ensures bound { IfOk result (λ n. (n ≤ 33) × (512 * n ≤ length buffer.new)) }
     {
-        let tally = tally_of(&self.table);
-        if tally.opened != 0 {
-            return Err(Question::NothingOpen);
-        }
-        let blocks = 1 + tally.standing;
-        if buffer.len() < BLOCK * blocks {
-            return Err(Question::BufferRoom);
-        }
+        let counts = Counts::of(&self.table);
+        Question::NothingOpen.ask(counts.opened == 0)?;
+        let standing = counts.standing();
+        Question::BufferRoom.ask(BLOCK * (1 + standing) <= buffer.len())?;
         let header = Header {
             job: self.job,
-            level: self.level,
-            count: tally.standing as u8,
+            level: self.level.value,
+            count: standing as u8,
         };
-        write_block(&header, &mut buffer[0..BLOCK]);
-        write_lines(&self.table, buffer);
-        Ok(blocks)
+        let (head, lines) = buffer.split_at_mut(BLOCK);
+        write_block(&header, head);
+        write_lines(&self.table, lines);
+        Ok(1 + standing)
     }
 }
 
-// How many positions stand, and how many are open.
-#[derive(Clone, Copy)]
-pub(crate) struct Tally {
-    pub(crate) standing: usize,
-    pub(crate) opened: usize,
-}
-
-pub(crate) fn tally_of(table: &[Position]) -> Tally
-    requires { length table.now ≤ 32 }
-    ensures standing { result.standing ≡ standing_in (entries_of table.now) }
-    ensures opened { result.opened ≡ open_ones (entries_of table.now) }
-    ensures bound { result.standing ≤ 32 }
-{
-    let mut tally = Tally {
-        standing: 0,
-        opened: 0,
-    };
-    for i in 0..table.len() {
-        tally = with_position(tally, table[i]);
-    }
-    tally
-}
-
-fn with_position(tally: Tally, position: Position) -> Tally
-    requires standing { tally.standing ≤ 32 }
-    requires opened { tally.opened ≤ 32 }
-    ensures standing { result.standing ≡ tally.standing + stands_one (entry_of position) }
-    ensures opened { result.opened ≡ tally.opened + open_one (entry_of position) }
-{
-    let mut more = tally;
-    match position.state {
-        State::Empty => {}
-        State::Standing(_, _) => more.standing += 1,
-        State::Open(_) => more.opened += 1,
-    }
-    more
-}
-
-// The blocks of the standing positions, behind block 0.
-fn write_lines(table: &[Position], buffer: &mut [u8])
+// The blocks of the standing positions. A slice of 32 and no array: that was tried, and the loop's proof did not close.
+fn write_lines(table: &[State], lines: &mut [u8])
     requires few { length table.now ≤ 32 }
-    requires room { 512 * (1 + standing_in (entries_of table.now)) ≤ length buffer.old }
-    ensures { buffer.new ≡ take 512 buffer.old ++ (position_blocks 1 (entries_of table.now) ++ drop (512 * (1 + standing_in (entries_of table.now))) buffer.old) }
+    requires room { 512 * standing_in (entries_of table.now) ≤ length lines.old }
+    ensures { lines.new ≡ position_blocks 1 (entries_of table.now) ++ drop (512 * standing_in (entries_of table.now)) lines.old }
 {
-    let mut at = BLOCK;
-    for i in 0..table.len() {
-        at = write_line(table[i], i as u8 + 1, buffer, at);
-    }
-}
-
-// The block of a position at its place, if it stands; answers the place after it.
-fn write_line(position: Position, number: u8, buffer: &mut [u8], at: usize) -> usize
-    requires { at + length (entry_block number (entry_of position)) ≤ length buffer.old }
-    ensures after { result ≡ at + length (entry_block number (entry_of position)) }
-    ensures buffer { buffer.new ≡ take at buffer.old ++ (entry_block number (entry_of position) ++ drop result buffer.old) }
-{
-    match position.state {
-        State::Empty => at,
-        State::Standing(bar, _) => {
-            write_block(&Line { number, bar }, &mut buffer[at..at + BLOCK]);
-            at + BLOCK
+    // written by place: of the part that `chunks_exact_mut` or `iter_mut` lends the library says only how long it is afterwards
+    let mut at = 0;
+    for (i, state) in table.iter().enumerate() {
+        if let State::Standing(bar, _) = state {
+            let line = Line {
+                number: i as u8 + 1,
+                bar: *bar,
+            };
+            write_block(&line, &mut lines[at..at + BLOCK]);
+            at += BLOCK;
         }
-        State::Open(_) => at,
     }
 }

@@ -1,19 +1,17 @@
 // The sheet of one board.
-ghost use Rattle.std.specs.Prelude.{◌≡◌, ◌≤◌, length};
+ghost use Rattle.std.specs.Prelude.{◌≡◌, length};
 
-use super::position::Position;
-
-// How many positions a sheet has.
-pub const POSITIONS: usize = 32;
+use super::position::State;
+use busbar::ranged::Level;
+pub use stored::place::POSITIONS;
 
 #[derive(Drop)]
 pub struct Sheet<F> {
     pub(crate) job: u16,
     // the prospective fault current, A
-    pub(crate) level: u32,
+    pub(crate) level: Level,
     pub(crate) feeder: F,
-    pub(crate) table: [Position; POSITIONS],
+    // by position, the first is position 1
+    pub(crate) table: [State; POSITIONS],
     ghost full: { length table ≡ 32 },
-    ghost level_least: { 100 ≤ level },
-    ghost level_most: { level ≤ 100000 },
 }

@@ -6,6 +6,7 @@ use busbar::question::Question;
 pub struct Slip {
     pub(crate) job: u16,
     pub(crate) position: u32,
+    // a rule of the project: a slip that is let go unspent has to be a fact that fails, so `drop` asks for this flag
     pub(crate) spent: bool,
 }
 

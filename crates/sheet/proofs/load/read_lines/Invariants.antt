@@ -1,5 +1,12 @@
+use Rattle.std.proofs.Common.{◌≡◌}
+use Rattle.std.specs.Iterator.Adapters.{enumerate_count, enumerate_source}
+use Rattle.std.specs.Slice.Iter.{chunks_exact_rest, chunks_exact_size}
 use Rattle.sheet.proofs.Loads.{Reading}
 use Rattle.sheet.proofs.load.read_lines.Given as goal
 
-abbrev pub invariant-loop-k : goal.invariant-loop-k
-invariant-loop-k l = Reading l.bytes l.count l.told l.table l.last l.k
+abbrev pub invariant-loop-i : goal.invariant-loop-i
+invariant-loop-i l =
+    (goal.iterator-loop-i).can_next l.i-iterator
+    × (goal.iterator-loop-i).is_finite l.i-iterator
+    × (chunks_exact_size (enumerate_source l.i-iterator) ≡ 512)
+    × Reading l.bytes (chunks_exact_rest (enumerate_source l.i-iterator)) l.told l.table l.last (enumerate_count l.i-iterator)

@@ -14,7 +14,7 @@ after_more tells p (d ∷ cs) c = after_more tells (step tells p d).0 cs c
 answers_more : (tells : ℕ → Told) (p : Plain) (cs : List Call) (c : Call)
     → plain_answers tells p (cs ++ c ∷ []) ≡ plain_answers tells p cs ++ (step tells (plain_after tells p cs) c).1 ∷ []
 answers_more tells p [] c = refl
-answers_more tells p (d ∷ cs) c = ap (λ l. (step tells p d).1 ∷ l) (answers_more tells (step tells p d).0 cs c)
+answers_more tells p (d ∷ cs) c = let rest = answers_more tells (step tells p d).0 cs c in cc
 
 pub record Followed {F : Type 0} (meaning : F → ℕ → Told) (first : Sheet F) (calls : List Call) (answers : List Answer) (last : Sheet F) : Type 0 where
   pub plain : plain_of last ≡ plain_after (meaning first.feeder) (plain_of first) calls

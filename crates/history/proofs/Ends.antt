@@ -1,15 +1,16 @@
 -- Withdrawing a slip that fits, and what is left when none is out.
-use Rattle.std.proofs.Common.{◌≡◌, ℕ, suc, ◌+◌, ◌-◌, ◌≤◌, true, false, ◌&&◌, eqb, leb, List, [], ◌∷◌, ◌++◌, map, length, get_or, set, Ok, sym, refl, ap, ◌∙◌, subst, ⊎_elim, arith}
+use Rattle.std.proofs.Common.{◌≡◌, ℕ, suc, ◌+◌, ◌-◌, ◌≤◌, true, false, eqb, List, [], ◌∷◌, ◌++◌, map, length, get_or, set, Ok, sym, refl, ap, ◌∙◌, arith}
 use lib.ListN.{length-map}
 use lib.Seq.{map-set_same}
 use Rattle.std.proofs.lemmas.List.{get_or_past, map_push}
-use Rattle.std.proofs.lemmas.Bool.{and_from, and_left, and_parts, cases_Bool, cond-false, cond-true, eq-eqb, eqb-true, le-leb, leb-false, leb-true, ne_eqb}
-use Rattle.busbar.specs.Rounding.{within}
+use Rattle.std.proofs.lemmas.Bool.{cond-true, eq-eqb}
+use Rattle.std.proofs.lemmas.Bool.Decides.{nat_tests}
+use Rattle.std.proofs.lemmas.Grind.{common_steps}
 use Rattle.busbar.specs.declared.question.Question.TheVariants as q
 use Rattle.feeder.specs.Laws.{Told}
 use Rattle.sheet.specs.Calls.{Answer, Call, settle}
 use Rattle.sheet.specs.Happened.{Happened, Sound, plain_of}
-use Rattle.sheet.specs.Plain.{Entry, Plain, change_at, change_by_slip, change_entry, positions, put}
+use Rattle.sheet.specs.Plain.{Entry, Plain, change_at, change_by_slip}
 use Rattle.sheet.specs.Position.{entry_of}
 use Rattle.sheet.specs.Slips.{Fits, is_opened}
 use Rattle.sheet.specs.Stored.{open_one}
@@ -24,44 +25,20 @@ use Rattle.history.proofs.Balance.{change_balances, times_given, with_entries}
 -- a slip fits where its position is open
 
 opened_is : (e : Entry) → 1 ≤ open_one e → is_opened e ≡ true
-opened_is Entry.empty h = absurd (omega (arith, h))
-opened_is (Entry.standing r) h = absurd (omega (arith, h))
-opened_is (Entry.opened r) h = refl
+opened_is e h = grind arith
 
 pub open_fits : (p : Plain) (s : Slip) → 1 ≤ open_for p s.job s.position → Fits s p
-open_fits p s h =
-    ⊎_elim
-    (λ counted.
-    let (jobs, inside) = and_parts (eqb s.job p.job) (within 1 positions s.position) counted in
-    let (low, high) = and_parts (leb 1 s.position) (leb s.position 32) inside in
-    record {
-      same_job = eqb-true _ _ jobs;
-      low = leb-true _ _ low;
-      high = leb-true _ _ high;
-      opened = opened_is (get_or p.entries (s.position - 1) Entry.empty) (subst (λ x. 1 ≤ x) (cond-true _ _ _ counted) h);
-    })
-    (λ uncounted. let none : open_for p s.job s.position ≡ 0 = cond-false _ _ _ uncounted in absurd (omega (arith, none, h)))
-    (cases_Bool (eqb s.job p.job && within 1 positions s.position))
-
-pub other_job : (p : Plain) (job n : ℕ) → eqb job p.job ≡ false → open_for p job n ≡ 0
-other_job p job n differ = cond-false _ _ _ (and_left (eqb job p.job) (within 1 positions n) differ)
+open_fits p s h = grind (arith, common_steps, opened_is)
 
 -- the plain sheet after the withdrawal
 
 taken_back : (p : Plain) (s : Slip) (e : Entry) → Fits s p → get_or p.entries (s.position - 1) Entry.empty ≡ e → is_opened e ≡ true
     → change_by_slip p s.job s.position change.Withdraw ≡ Ok (set p.entries (s.position - 1) (stands_again e))
-taken_back p s Entry.empty fits is open_now = let z : ◌≡◌ {A = ℕ} 0 1 = ap times_one open_now in absurd (omega arith)
-taken_back p s (Entry.standing r) fits is open_now = let z : ◌≡◌ {A = ℕ} 0 1 = ap times_one open_now in absurd (omega arith)
-taken_back p s (Entry.opened r) fits is open_now =
-    cond-true _ _ _ (eq-eqb _ _ fits.same_job)
-    ∙ cond-true _ _ _ (and_from (leb 1 s.position) (leb s.position 32) (le-leb _ _ fits.low) (le-leb _ _ fits.high))
-    ∙ ap (λ x. put p.entries s.position (change_entry x change.Withdraw)) is
+taken_back p s e fits is open_now = grind (arith, common_steps)
 
 -- standing again, one position or all, comes to the same in the end
 twice : (e : Entry) → stands_again (stands_again e) ≡ stands_again e
-twice Entry.empty = refl
-twice (Entry.standing r) = refl
-twice (Entry.opened r) = refl
+twice e = grind arith
 
 again_same : (es : List Entry) (i : ℕ) → map stands_again (set es i (stands_again (get_or es i Entry.empty))) ≡ map stands_again es
 again_same es i = map-set_same stands_again es i (stands_again (get_or es i Entry.empty)) Entry.empty (twice (get_or es i Entry.empty))
@@ -69,30 +46,13 @@ again_same es i = map-set_same stands_again es i (stands_again (get_or es i Entr
 -- nothing open: nothing to withdraw
 nothing_left : (es : List Entry) → ((i : ℕ) → open_one (get_or es i Entry.empty) ≡ 0) → map stands_again es ≡ es
 nothing_left [] none = refl
-nothing_left (e ∷ es) none = (λ k. same e (none 0) k ∷ nothing_left es (λ i. none (suc i)) k)
-  where
-    same : (e : Entry) → open_one e ≡ 0 → stands_again e ≡ e
-    same Entry.empty h = refl
-    same (Entry.standing r) h = refl
-    same (Entry.opened r) h = absurd (omega (arith, h))
+nothing_left (e ∷ es) none =
+    let first = none 0 in
+    let rest = nothing_left es (λ i. none (suc i)) in
+    grind arith
 
 pub shut_same : (p : Plain) → length p.entries ≡ 32 → ((job n : ℕ) → open_for p job n ≡ 0) → all_withdrawn p ≡ p
-shut_same p full none =
-    ap (with_entries p)
-    (nothing_left p.entries (λ i.
-    ⊎_elim
-    (λ inside.
-    let n : ℕ = i + 1 in
-    let lt : i + 1 ≤ 32 = leb-true _ _ inside in
-    let here : open_for p p.job (i + 1) ≡ open_one (get_or p.entries (i + 1 - 1) Entry.empty) =
-    cond-true _ _ _ (and_from _ _ (eq-eqb p.job p.job refl) (and_from (leb 1 (i + 1)) (leb (i + 1) 32) (le-leb _ _ (omega arith)) inside)) in
-    let place : i + 1 - 1 ≡ i = omega arith in
-    ap (λ j. open_one (get_or p.entries j Entry.empty)) (sym place) ∙ sym here ∙ none p.job (i + 1))
-    (λ past. ap open_one (get_or_past p.entries i Entry.empty (over i past)))
-    (cases_Bool (leb (i + 1) 32))))
-  where
-    over : (i : ℕ) → leb (i + 1) 32 ≡ false → length p.entries ≤ i
-    over i past = omega (arith, full, leb-false (i + 1) 32 past)
+shut_same p full none = ap (with_entries p) (nothing_left p.entries (λ i. let here = none p.job (i + 1) in grind (arith, common_steps, get_or_past)))
 
 -- one slip withdrawn from the sheet that it fits
 module _ {F : Type 0} (meaning : F → ℕ → Told) (before after : Sheet F) (s : Slip) (fits : Fits s (plain_of before))
@@ -130,13 +90,13 @@ pub record Ending {F G : Type 0} (meaning_f : F → ℕ → Told) (meaning_g : G
   pub first_feeder : s.feeder ≡ s₀.feeder
   pub second_feeder : t.feeder ≡ t₀.feeder
 
-module _ {F G : Type 0} (meaning_f : F → ℕ → Told) (meaning_g : G → ℕ → Told) (s₀ s : Sheet F) (t₀ t : Sheet G) (slips rest : List Slip) (slip : Slip)
+module _ {F G : Type 0} {meaning_f : F → ℕ → Told} {meaning_g : G → ℕ → Told} {s₀ s : Sheet F} {t₀ t : Sheet G} {slips : List Slip} (rest : List Slip) (slip : Slip)
     (inv : Ending meaning_f meaning_g s₀ s t₀ t slips) (apart : eqb s₀.job t₀.job ≡ false) (popped : slips ≡ rest ++ slip ∷ []) where
   weight : (job n : ℕ) → times (hand_of slips) job n ≡ times (hand_of rest) job n + times_one (is_slip job n (slip_of slip))
-  weight job n = ap (λ l. times (hand_of l) job n) popped ∙ ap (λ h. times h job n) (map_push slip_of rest slip) ∙ times_given (hand_of rest) (slip_of slip) job n
+  weight job n = grind (arith, map_push, times_given)
 
   itself : times_one (is_slip slip.job slip.position (slip_of slip)) ≡ 1
-  itself = ap times_one (and_from _ _ (eq-eqb slip.job slip.job refl) (eq-eqb slip.position slip.position refl))
+  itself = grind (arith, nat_tests)
 
   first_job : s.job ≡ s₀.job
   first_job = ap (λ (x : Plain). x.job) inv.first_same
@@ -146,18 +106,20 @@ module _ {F G : Type 0} (meaning_f : F → ℕ → Told) (meaning_g : G → ℕ 
 
   pub fits_first : slip.job ≡ s.job → Fits slip (plain_of s)
   fits_first mine =
-      let others : open_for (plain_of t) slip.job slip.position ≡ 0 = other_job (plain_of t) slip.job slip.position ((λ i. eqb ((mine ∙ first_job) i) (second_job i)) ∙ apart) in
-      open_fits (plain_of s) slip (omega (arith, inv.out slip.job slip.position, weight slip.job slip.position, itself, others))
+      let out = inv.out slip.job slip.position in
+      let more = weight slip.job slip.position in
+      open_fits (plain_of s) slip (grind (arith, nat_tests, itself, first_job, second_job))
 
   pub fits_second : (slip.job ≡ s.job → ⊥) → Fits slip (plain_of t)
   fits_second not_mine =
-      let others : open_for (plain_of s) slip.job slip.position ≡ 0 = other_job (plain_of s) slip.job slip.position (ne_eqb _ _ not_mine) in
-      open_fits (plain_of t) slip (omega (arith, inv.out slip.job slip.position, weight slip.job slip.position, itself, others))
+      let out = inv.out slip.job slip.position in
+      let more = weight slip.job slip.position in
+      open_fits (plain_of t) slip (grind (arith, nat_tests, itself))
 
-  pub ending_first : (after : Sheet F) → Fits slip (plain_of s) → Happened meaning_f s (Call.withdraw slip.job slip.position) Answer.done after → Ending meaning_f meaning_g s₀ after t₀ t rest
-  ending_first after fits did = record {
-    out = λ job n. omega (arith, inv.out job n, weight job n, one_fewer meaning_f s after slip fits did job n);
-    first_same = again_in_the_end meaning_f s after slip fits did ∙ inv.first_same;
+  pub ending_first : (after : Sheet F) → slip.job ≡ s.job → Happened meaning_f s (Call.withdraw slip.job slip.position) Answer.done after → Ending meaning_f meaning_g s₀ after t₀ t rest
+  ending_first after mine did = record {
+    out = λ job n. omega (arith, inv.out job n, weight job n, one_fewer meaning_f s after slip (fits_first mine) did job n);
+    first_same = again_in_the_end meaning_f s after slip (fits_first mine) did ∙ inv.first_same;
     second_same = inv.second_same;
     first_sound = λ h. did.sound (inv.first_sound h);
     second_sound = inv.second_sound;
@@ -165,20 +127,20 @@ module _ {F G : Type 0} (meaning_f : F → ℕ → Told) (meaning_g : G → ℕ 
     second_feeder = inv.second_feeder;
   }
 
-  pub ending_second : (after : Sheet G) → Fits slip (plain_of t) → Happened meaning_g t (Call.withdraw slip.job slip.position) Answer.done after → Ending meaning_f meaning_g s₀ s t₀ after rest
-  ending_second after fits did = record {
-    out = λ job n. omega (arith, inv.out job n, weight job n, one_fewer meaning_g t after slip fits did job n);
+  pub ending_second : (after : Sheet G) → (slip.job ≡ s.job → ⊥) → Happened meaning_g t (Call.withdraw slip.job slip.position) Answer.done after → Ending meaning_f meaning_g s₀ s t₀ after rest
+  ending_second after not_mine did = record {
+    out = λ job n. omega (arith, inv.out job n, weight job n, one_fewer meaning_g t after slip (fits_second not_mine) did job n);
     first_same = inv.first_same;
-    second_same = again_in_the_end meaning_g t after slip fits did ∙ inv.second_same;
+    second_same = again_in_the_end meaning_g t after slip (fits_second not_mine) did ∙ inv.second_same;
     first_sound = inv.first_sound;
     second_sound = λ h. did.sound (inv.second_sound h);
     first_feeder = inv.first_feeder;
     second_feeder = did.same_feeder ∙ inv.second_feeder;
   }
 
-pub ended : {F G : Type 0} (meaning_f : F → ℕ → Told) (meaning_g : G → ℕ → Told) (s₀ s : Sheet F) (t₀ t : Sheet G) (slips : List Slip)
+pub ended : {F G : Type 0} {meaning_f : F → ℕ → Told} {meaning_g : G → ℕ → Told} {s₀ s : Sheet F} {t₀ t : Sheet G} {slips : List Slip}
     → Ending meaning_f meaning_g s₀ s t₀ t slips → slips ≡ [] → Withdrawn meaning_f s₀ s × Withdrawn meaning_g t₀ t
-ended meaning_f meaning_g s₀ s t₀ t slips inv none =
+ended {s = s} {t = t} inv none =
     let nothing : (job n : ℕ) → open_for (plain_of s) job n + open_for (plain_of t) job n ≡ 0 = λ job n. sym (inv.out job n) ∙ ap (λ l. times (hand_of l) job n) none in (
       record {
         plain = sym (shut_same (plain_of s) (length-map s.table entry_of ∙ s.full) (λ job n. omega (arith, nothing job n))) ∙ inv.first_same;

@@ -1,20 +1,17 @@
 -- The standing verdicts of a sound sheet, of one board and of two.
-use Rattle.std.proofs.Common.{◌≡◌, ℕ, ◌-◌, ◌<◌, ◌≤◌, List, length, get_or, Some, None, sym, refl, ap, ◌∙◌, subst, arith}
+use Rattle.std.proofs.Common.{◌≡◌, ℕ, ◌-◌, ◌<◌, ◌≤◌, List, length, get_or, sym, ap, ◌∙◌, subst, arith}
 use Rattle.std.proofs.lemmas.List.{get_or-map}
-use Rattle.std.proofs.lemmas.Bool.{and_from, cond-true, le-leb}
+use Rattle.std.proofs.lemmas.Bool.Decides.{nat_tests}
 use Rattle.busbar.specs.Exact.{Exact}
-use Rattle.busbar.specs.Harder.{NoEasier, NoSmaller, NoSofter}
-use Rattle.busbar.specs.Rounding.{within}
-use Rattle.busbar.specs.Verdict.{figures_told, verdict}
+use Rattle.busbar.specs.Harder.{NoEasier, NoSofter}
+use Rattle.busbar.specs.Verdict.{Verdict, figures_told, verdict}
 use Rattle.busbar.specs.declared.checked.CheckedRecord.{CheckedRecord}
-use Rattle.busbar.specs.declared.verdict.Verdict.{Verdict}
 use Rattle.busbar.proofs.Exactness.{exact}
 use Rattle.busbar.proofs.Softness.{no_softer}
 use Rattle.feeder.specs.Laws.{InRanges, Lawful, Told}
 use Rattle.sheet.specs.Calls.{Answer, Call}
 use Rattle.sheet.specs.Happened.{Sound, plain_of}
-use Rattle.sheet.specs.Position.{again, again_state}
-use Rattle.sheet.specs.declared.position.Position.{Position}
+use Rattle.sheet.specs.Position.{again}
 use Rattle.sheet.specs.declared.position.State.{State}
 use Rattle.sheet.specs.declared.position.State.TheVariants as state
 use Rattle.sheet.specs.declared.sheet.Sheet.{Sheet}
@@ -30,18 +27,18 @@ verdict_in other (state.Open x) = other
 
 -- of a sound sheet it is the definitions'
 pub stands_right : {F : Type 0} (meaning : F → ℕ → Told) (s : Sheet F) (n : ℕ) (x : CheckedRecord) (v : Verdict)
-    → Sound meaning s → StandsAt s n x v → v ≡ verdict x.bar (meaning s.feeder s.level)
+    → Sound meaning s → StandsAt s n x v → v ≡ verdict x.bar (meaning s.feeder s.level.value)
 stands_right meaning s n x v sound at =
-    let told : Told = meaning s.feeder s.level in
+    let told : Told = meaning s.feeder s.level.value in
     let low : 1 ≤ n = at.low in
     let high : n ≤ 32 = at.high in
     let full : length s.table ≡ 32 = s.full in
     let inside : n - 1 < length s.table = omega arith in
-    let d : Position = record { state = state.Empty } in
+    let d : State = state.Empty in
     let same : again told (get_or s.table (n - 1) d) ≡ get_or s.table (n - 1) d =
     sym (get_or-map (again told) s.table (n - 1) d d inside) ∙ ap (λ l. get_or l (n - 1) d) sound in
-    sym (ap (λ p. verdict_in v p.state) same ∙ ap (verdict_in v) at.state_is)
-    ∙ ap (λ p. verdict_in v (again_state told p)) at.state_is
+    sym (ap (verdict_in v) same ∙ ap (verdict_in v) at.state_is)
+    ∙ ap (λ p. verdict_in v (again told p)) at.state_is
 
 pub agrees : {F : Type 0} (meaning : F → ℕ → Told) (f : F) (job : ℕ) (new s : Sheet F) (calls : List Call) (answers : List Answer)
     → New meaning f job new → Course meaning new calls answers s → Agreement meaning f job calls answers s
@@ -57,41 +54,35 @@ agrees meaning f job new s calls answers begun course =
           ∙ ap (λ p. plain_after (meaning f) p calls) begun.plain;
       same_feeder = feeder;
       verdicts_right = λ n x v at.
-          let is : v ≡ verdict x.bar (meaning f s.level) =
-          stands_right meaning s n x v (went.sound begun.sound) at ∙ ap (λ g. verdict x.bar (meaning g s.level)) feeder in
+          let is : v ≡ verdict x.bar (meaning f s.level.value) =
+          stands_right meaning s n x v (went.sound begun.sound) at ∙ ap (λ g. verdict x.bar (meaning g s.level.value)) feeder in
           record {
             defined = is;
-            exact = subst (Exact x.bar (meaning f s.level)) (sym is) (exact x.bar x.passed (meaning f s.level));
+            exact = subst (Exact x.bar (meaning f s.level.value)) (sym is) (exact x.bar x.passed (meaning f s.level.value));
           };
     }
 
 -- what a feeder tells counts as it is
 counts_as_told : (told : Told) → InRanges told → figures_told told ≡ told
-counts_as_told None in_ranges = refl
-counts_as_told (Some t) in_ranges =
-    let (peak_low, peak_high, heat_low, heat_high) = in_ranges in
-    cond-true _ _ _ (and_from (within 1 300000 t.0) (within 1 200000000000000 t.1) (and_from _ _ (le-leb _ _ peak_low) (le-leb _ _ peak_high)) (and_from _ _ (le-leb _ _ heat_low) (le-leb _ _ heat_high)))
+counts_as_told told in_ranges = grind (arith, nat_tests)
 
 -- of two verdicts by one meaning, the one on the harder duty is no softer
 softer_not : (tells : ℕ → Told) → Lawful tells → (high low : ℕ) (x y : CheckedRecord) → 100 ≤ low → low ≤ high → NoEasier x.bar y.bar
     → NoSofter (verdict x.bar (tells high)) (verdict y.bar (tells low))
 softer_not tells law high low x y least below harder =
     no_softer x.bar (tells high) x.passed y.bar (tells low) y.passed harder
-    (subst (λ s. NoSmaller s (figures_told (tells low))) (sym (counts_as_told (tells high) (law.in_ranges high)))
-    (subst (NoSmaller (tells high)) (sym (counts_as_told (tells low) (law.in_ranges low))) (law.rises low high least below)))
+    (rw (counts_as_told (tells high) (law.in_ranges high), counts_as_told (tells low) (law.in_ranges low)) (law.rises low high least below))
 
 -- no board is softer than another whose feeder means the same
 no_softer_than : {F G : Type 0} (meaning_f : F → ℕ → Told) (meaning_g : G → ℕ → Told) (f : F) (g : G) (s : Sheet F) (t : Sheet G)
     → Lawful (meaning_f f) → ((level : ℕ) → meaning_f f level ≡ meaning_g g level)
     → Sound meaning_f s → s.feeder ≡ f → Sound meaning_g t → t.feeder ≡ g → NoSofterThan s t
 no_softer_than meaning_f meaning_g f g s t law same sound_s is_f sound_t is_g n m x y v w at_s at_t harder below =
-    let right_v : v ≡ verdict x.bar (meaning_f f s.level) =
-    stands_right meaning_f s n x v sound_s at_s ∙ ap (λ h. verdict x.bar (meaning_f h s.level)) is_f in
-    let right_w : w ≡ verdict y.bar (meaning_f f t.level) =
-    stands_right meaning_g t m y w sound_t at_t ∙ ap (λ h. verdict y.bar (meaning_g h t.level)) is_g ∙ ap (verdict y.bar) (sym (same t.level)) in
-    subst (λ a. NoSofter a w) (sym right_v)
-    (subst (NoSofter (verdict x.bar (meaning_f f s.level))) (sym right_w)
-    (softer_not (meaning_f f) law s.level t.level x y t.level_least below harder))
+    let right_v : v ≡ verdict x.bar (meaning_f f s.level.value) =
+    stands_right meaning_f s n x v sound_s at_s ∙ ap (λ h. verdict x.bar (meaning_f h s.level.value)) is_f in
+    let right_w : w ≡ verdict y.bar (meaning_f f t.level.value) =
+    stands_right meaning_g t m y w sound_t at_t ∙ ap (λ h. verdict y.bar (meaning_g h t.level.value)) is_g ∙ ap (verdict y.bar) (sym (same t.level.value)) in
+    rw (right_v, right_w) (softer_not (meaning_f f) law s.level.value t.level.value x y t.level.least below harder)
 
 pub both_boards : {F G : Type 0} (meaning_f : F → ℕ → Told) → ((f : F) → Lawful (meaning_f f)) → (meaning_g : G → ℕ → Told) → ((g : G) → Lawful (meaning_g g))
     → (f : F) (g : G) (new_f s : Sheet F) (new_g t : Sheet G) {job_f job_g : ℕ} {calls_f calls_g : List Call} {answers_f answers_g : List Answer}

@@ -2,10 +2,9 @@
 use Rattle.std.specs.Prelude.{◌≡◌, ℕ, ◌-◌, ◌≤◌, List, slice_index_or}
 use Rattle.busbar.specs.Exact.{Exact}
 use Rattle.busbar.specs.Harder.{NoEasier, NoSofter}
-use Rattle.busbar.specs.Verdict.{verdict}
+use Rattle.busbar.specs.Verdict.{Verdict, verdict}
 use Rattle.busbar.specs.declared.checked.CheckedRecord.{CheckedRecord}
 use Rattle.busbar.specs.declared.record.Record.{Record}
-use Rattle.busbar.specs.declared.verdict.Verdict.{Verdict}
 use Rattle.feeder.specs.Laws.{Told}
 use Rattle.sheet.specs.Calls.{Call, Answer}
 use Rattle.sheet.specs.Happened.{plain_of}
@@ -18,7 +17,7 @@ use Rattle.history.specs.Course.{Course, New, plain_after, plain_answers}
 pub record StandsAt {F : Type 0} (s : Sheet F) (n : ℕ) (x : CheckedRecord) (v : Verdict) : Type 0 where
   pub low : 1 ≤ n
   pub high : n ≤ positions
-  pub state_is : (slice_index_or s.table (n - 1) (record { state = state.Empty })).state ≡ state.Standing x v
+  pub state_is : slice_index_or s.table (n - 1) state.Empty ≡ state.Standing x v
 
 -- a verdict, with its figure and limit, is the definitions', and says what it says exactly
 pub record Right (told : Told) (x : Record) (v : Verdict) : Type 0 where
@@ -31,14 +30,14 @@ pub record Agreement {F : Type 0} (meaning : F → ℕ → Told) (f : F) (job : 
   pub same_answers : answers ≡ plain_answers (meaning f) (fresh job) calls
   pub same_plain : plain_of s ≡ plain_after (meaning f) (fresh job) calls
   pub same_feeder : s.feeder ≡ f
-  pub verdicts_right : (n : ℕ) (x : CheckedRecord) (v : Verdict) → StandsAt s n x v → Right (meaning f s.level) x.bar v
+  pub verdicts_right : (n : ℕ) (x : CheckedRecord) (v : Verdict) → StandsAt s n x v → Right (meaning f s.level.value) x.bar v
 
 -- a standing position of s that is no easier than one of t, at a level no lower, is refused where that one is,
 -- on the same ground or an earlier one
 abbrev pub NoSofterThan : {F G : Type 0} → Sheet F → Sheet G → Type 0
 NoSofterThan s t =
     (n m : ℕ) (x y : CheckedRecord) (v w : Verdict) → StandsAt s n x v → StandsAt t m y w
-    → NoEasier x.bar y.bar → t.level ≤ s.level → NoSofter v w
+    → NoEasier x.bar y.bar → t.level.value ≤ s.level.value → NoSofter v w
 
 -- Two boards. The feeders may be of any make; where they mean the same at every level, neither board is softer.
 pub record TwoBoards {F G : Type 0} (meaning_f : F → ℕ → Told) (f : F) (meaning_g : G → ℕ → Told) (g : G) (s : Sheet F) (t : Sheet G) : Type 0 where

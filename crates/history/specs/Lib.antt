@@ -3,5 +3,7 @@ pub mod Values
 pub mod Hand
 pub mod Law
 pub mod Ran
+pub mod Room
+pub mod Hindrances
 pub mod Both
 pub mod Ending

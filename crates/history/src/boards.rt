@@ -7,7 +7,8 @@ use super::call::Answer;
 use sheet::sheet::Sheet;
 use sheet::slip::Slip;
 
-// Both sheets after their lists, all answers, and the slips that are still out.
+// Both sheets after their lists, all answers, and the slips that are still out. The fields of the two boards stand side by side,
+// as the law names them.
 pub struct Both<F, G> {
     pub first: Sheet<F>,
     pub second: Sheet<G>,

@@ -1,6 +1,9 @@
 // Two lists of calls on the new sheets of two boards.
-ghost use Rattle.std.specs.Prelude.{◌≡◌, ◌+◌, ◌≤◌, false, [], IfOk, vec_len, vec_capacity, ◌==◌};
-ghost use Rattle.history.specs.Both.{BothOutcome, BothRan};
+ghost use Rattle.std.specs.Prelude.{◌≡◌, MatchResult, Some};
+ghost use Rattle.history.specs.Both.{BothOutcome, BothRan, Hindered};
+ghost use Rattle.history.specs.Hindrances.{hindrance_text};
+ghost use Rattle.history.specs.Room.{CanRun};
+ghost use Rattle.history.specs.declared.both.Hindrance.TheVariants.{Memory};
 
 use super::boards::Both;
 use super::call::{Answer, Call};
@@ -9,6 +12,8 @@ use feeder::tells::Feeder;
 use sheet::sheet::Sheet;
 use sheet::slip::Slip;
 use std::alloc::{AllocError, Global};
+use std::error::Error;
+use std::fmt;
 
 // A board: the number of its job, its feeder, and the list of calls for its new sheet.
 #[derive(Drop)]
@@ -19,11 +24,32 @@ pub struct Board<F> {
 }
 
 // Why two boards were not run.
-#[derive(Clone, Copy)]
+#[derive(Clone, Copy, Debug, PartialEq, Eq)]
 pub enum Hindrance {
     // the slips of one job cannot be told apart
     SameJob,
     Memory,
+}
+
+impl fmt::Display for Hindrance {
+    ghost output = { λ why. Some (hindrance_text why) };
+
+    fn fmt<W: fmt::Write>(&self, f: &mut fmt::Formatter<W>) -> fmt::Result {
+        f.write_str(match self {
+            Hindrance::SameJob => "two boards of one job",
+            Hindrance::Memory => "not enough memory",
+        })
+    }
+}
+
+impl Error for Hindrance {}
+
+impl From<AllocError> for Hindrance {
+    ghost from_gives = { λ _ why. why ≡ Memory };
+
+    fn from(_no_memory: AllocError) -> Self {
+        Self::Memory
+    }
 }
 
 // Nothing was run, and both boards come back.
@@ -42,20 +68,10 @@ pub fn replay_both<F: Feeder, G: Feeder>(
 ) -> Result<Both<F, G>, NotRun<F, G>>
     ensures { BothOutcome F.Feeder.meaning G.Feeder.meaning first second result }
 {
-    if first.job == second.job {
-        return Err(NotRun {
-            why: Hindrance::SameJob,
-            first,
-            second,
-        });
-    }
-    match room_for(heap, first.calls.len(), second.calls.len()) {
+    // no `?`: on a no the boards go back, and `map_err` could not take them while a yes needs them
+    match room_for(heap, &first, &second) {
         Ok(room) => Ok(run_both(first, second, room)),
-        Err(_) => Err(NotRun {
-            why: Hindrance::Memory,
-            first,
-            second,
-        }),
+        Err(why) => Err(NotRun { why, first, second }),
     }
 }
 
@@ -66,17 +82,19 @@ struct Room {
     slips: Vec<Slip>,
 }
 
-fn room_for(heap: Global, first: usize, second: usize) -> Result<Room, AllocError>
-    ensures first { IfOk result (λ m. (m.first_answers.items ≡ []) × (vec_len m.first_answers + first ≤ vec_capacity m.first_answers)) }
-    ensures second { IfOk result (λ m. (m.second_answers.items ≡ []) × (vec_len m.second_answers + second ≤ vec_capacity m.second_answers)) }
-    ensures slips { IfOk result (λ m. (m.slips.items ≡ []) × (vec_len m.slips ≡ 0) × (first + second ≤ vec_capacity m.slips)) }
+fn room_for<F: Feeder, G: Feeder>(
+    heap: Global,
+    first: &Board<F>,
+    second: &Board<G>,
+) -> Result<Room, Hindrance>
+    ensures { MatchResult result (λ room. CanRun first.now second.now room) (λ why. Hindered first.now.job second.now.job why) }
 {
-    let Some(both) = first.checked_add(second) else {
-        return Err(AllocError);
-    };
-    let first_answers = Vec::with_capacity(heap, first)?;
-    let second_answers = Vec::with_capacity(heap, second)?;
-    let slips = Vec::with_capacity(heap, both)?;
+    if first.job == second.job {
+        return Err(Hindrance::SameJob);
+    }
+    let first_answers = Vec::with_capacity(heap, first.calls.len())?;
+    let second_answers = Vec::with_capacity(heap, second.calls.len())?;
+    let slips = Vec::with_capacity(heap, first.calls.len() + second.calls.len())?;
     Ok(Room {
         first_answers,
         second_answers,
@@ -85,18 +103,14 @@ fn room_for(heap: Global, first: usize, second: usize) -> Result<Room, AllocErro
 }
 
 fn run_both<F: Feeder, G: Feeder>(first: Board<F>, second: Board<G>, room: Room) -> Both<F, G>
-    requires apart { (first.job == second.job) ≡ false }
-    requires first { (room.first_answers.items ≡ []) × (vec_len room.first_answers + vec_len first.calls ≤ vec_capacity room.first_answers) }
-    requires second { (room.second_answers.items ≡ []) × (vec_len room.second_answers + vec_len second.calls ≤ vec_capacity room.second_answers) }
-    requires slips { (room.slips.items ≡ []) × (vec_len room.slips ≡ 0) × (vec_len first.calls + vec_len second.calls ≤ vec_capacity room.slips) }
+    requires { CanRun first second room }
     ensures { BothRan F.Feeder.meaning G.Feeder.meaning first second result }
 {
     let Room {
         first_answers,
         second_answers,
-        slips,
+        mut slips,
     } = room;
-    let mut slips = slips;
     let mut first_sheet = Sheet::new(first.job, first.feeder);
     let mut second_sheet = Sheet::new(second.job, second.feeder);
     let first_answers = carry_out(&mut first_sheet, &mut slips, first.calls, first_answers);

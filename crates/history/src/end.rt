@@ -58,8 +58,5 @@ fn take_back<F: Feeder>(sheet: &mut Sheet<F>, slip: Slip)
     requires { Fits slip (plain_of sheet.old) }
     ensures { Happened F.Feeder.meaning sheet.old (called_withdraw slip.job slip.position) done sheet.new }
 {
-    match sheet.withdraw(slip) {
-        Ok(()) => {}
-        Err(_) => unreachable(),
-    }
+    sheet.withdraw(slip).unwrap();
 }

@@ -1,78 +1,47 @@
 // One call of a list, made on a sheet with the slips in hand.
-ghost use Rattle.std.specs.Prelude.{◌≡◌, ◌+◌, ◌<◌, ◌≤◌, vec_len, vec_capacity};
-ghost use Rattle.sheet.specs.Calls.Answer.{done};
+ghost use Rattle.std.specs.Prelude.{◌+◌, ◌<◌, ◌≤◌};
 ghost use Rattle.sheet.specs.Calls.Call.{opening as called_open, save as called_save};
-ghost use Rattle.sheet.specs.Happened.{Happened, SlipBack, answered, loaded_or_no, spent_or_no, state_or_no};
+ghost use Rattle.sheet.specs.Happened.{Happened, SlipBack, spent_or_no};
 ghost use Rattle.history.specs.Hand.{Did, Made, hand_of, spending};
-ghost use Rattle.history.specs.Values.{answer as replied, call_of, reply_of};
+ghost use Rattle.history.specs.Room.{room_in};
+ghost use Rattle.history.specs.Values.{call_of, reply_of};
 
 use super::call::{Answer, Call};
-use super::slips::{find, put_back};
-use busbar::question::Question;
+use super::slips::find;
 use busbar::record::Record;
 use feeder::tells::Feeder;
-use sheet::load::NotLoaded;
-use sheet::position::State;
 use sheet::sheet::Sheet;
 use sheet::slip::{Slip, Unspent};
 
-// One call.
+// One call. Sheet and slips are two parameters: methods of a struct of both would have to promise to keep both `&mut`.
+#[tactic(auto, using(crate::proofs::Searches::plain_calls))]
 pub(crate) fn make<F: Feeder>(sheet: &mut Sheet<F>, slips: &mut Vec<Slip>, call: Call) -> Answer
-    requires { vec_len slips.old < vec_capacity slips.old }
+    requires { 0 < room_in slips.old }
     ensures did { Did F.Feeder.meaning sheet.old (hand_of slips.old.items) (call_of call) (reply_of result) sheet.new (hand_of slips.new.items) }
-    ensures few { vec_len slips.new ≤ vec_len slips.old + 1 }
-    ensures capacity { vec_capacity slips.new ≡ vec_capacity slips.old }
+    ensures room { room_in slips.old ≤ room_in slips.new + 1 }
 {
     match call {
-        Call::Enter { position, bar } => done_or_no(sheet.enter(position, bar)),
-        Call::Strike { position } => done_or_no(sheet.strike(position)),
-        Call::SetLevel { level } => done_or_no(sheet.set_level(level)),
+        Call::Enter { position, bar } => sheet.enter(position, bar).into(),
+        Call::Strike { position } => sheet.strike(position).into(),
+        Call::SetLevel { level } => sheet.set_level(level).into(),
         Call::Open { position } => open(sheet, slips, position),
         Call::Close { job, position, bar } => spend(sheet, slips, job, position, Some(bar)),
         Call::Withdraw { job, position } => spend(sheet, slips, job, position, None),
         Call::Save { buffer } => save(sheet, buffer),
-        Call::Load { bytes } => loaded_or_no(sheet.load(&bytes)),
-        Call::Position { position } => shown_or_no(sheet.position(position)),
+        Call::Load { bytes } => sheet.load(&bytes).into(),
+        Call::Position { position } => sheet.position(position).into(),
         Call::Counts => Answer::Counted(sheet.counts()),
         Call::MayRelease => Answer::Says(sheet.may_release()),
         Call::Level => Answer::Number(sheet.level()),
-        Call::Job => Answer::Number(sheet.job() as u32),
-    }
-}
-
-fn done_or_no(outcome: Result<(), Question>) -> Answer
-    ensures { reply_of result ≡ replied (answered done outcome) }
-{
-    match outcome {
-        Ok(()) => Answer::Done,
-        Err(question) => Answer::Refused(question),
-    }
-}
-
-fn loaded_or_no(outcome: Result<(), NotLoaded>) -> Answer
-    ensures { reply_of result ≡ replied (loaded_or_no outcome) }
-{
-    match outcome {
-        Ok(()) => Answer::Done,
-        Err(no) => Answer::NotLoaded(no),
-    }
-}
-
-fn shown_or_no(outcome: Result<State, Question>) -> Answer
-    ensures { reply_of result ≡ replied (state_or_no outcome) }
-{
-    match outcome {
-        Ok(state) => Answer::Shows(state),
-        Err(question) => Answer::Refused(question),
+        Call::Job => Answer::Number(u32::from(sheet.job())),
     }
 }
 
 // The slip that is given goes to the end of those in hand.
 fn open<F: Feeder>(sheet: &mut Sheet<F>, slips: &mut Vec<Slip>, position: u32) -> Answer
-    requires { vec_len slips.old < vec_capacity slips.old }
+    requires { 0 < room_in slips.old }
     ensures did { Did F.Feeder.meaning sheet.old (hand_of slips.old.items) (called_open position) (reply_of result) sheet.new (hand_of slips.new.items) }
-    ensures few { vec_len slips.new ≤ vec_len slips.old + 1 }
-    ensures capacity { vec_capacity slips.new ≡ vec_capacity slips.old }
+    ensures room { room_in slips.old ≤ room_in slips.new + 1 }
 {
     match sheet.open(position) {
         Ok(slip) => {
@@ -94,8 +63,7 @@ fn spend<F: Feeder>(
     bar: Option<Record>,
 ) -> Answer
     ensures did { Did F.Feeder.meaning sheet.old (hand_of slips.old.items) (spending job position bar) (reply_of result) sheet.new (hand_of slips.new.items) }
-    ensures few { vec_len slips.new ≤ vec_len slips.old }
-    ensures capacity { vec_capacity slips.new ≡ vec_capacity slips.old }
+    ensures room { room_in slips.old ≤ room_in slips.new }
 {
     let Some(at) = find(slips, job, position) else {
         return Answer::NotInHand;
@@ -105,12 +73,13 @@ fn spend<F: Feeder>(
         Ok(()) => Answer::Done,
         Err(unspent) => {
             let Unspent { slip, question } = unspent;
-            put_back(slips, at, slip);
+            slips.insert(at, slip).unwrap();
             Answer::Refused(question)
         }
     }
 }
 
+// A record, or none, says which call it is: a closure would bring the meaning of both calls into the contract of `spend`.
 fn spent<F: Feeder>(sheet: &mut Sheet<F>, slip: Slip, bar: Option<Record>) -> Result<(), Unspent>
     ensures happened { Happened F.Feeder.meaning sheet.old (spending slip.job slip.position bar) (spent_or_no result) sheet.new }
     ensures slip { SlipBack slip result }
@@ -122,10 +91,9 @@ fn spent<F: Feeder>(sheet: &mut Sheet<F>, slip: Slip, bar: Option<Record>) -> Re
 }
 
 // The buffer goes into the answer, with the blocks in it.
-fn save<F: Feeder>(sheet: &Sheet<F>, buffer: Vec<u8>) -> Answer
+fn save<F: Feeder>(sheet: &Sheet<F>, mut buffer: Vec<u8>) -> Answer
     ensures { Made F.Feeder.meaning sheet.now (called_save buffer.items) (reply_of result) sheet.now }
 {
-    let mut buffer = buffer;
     let blocks = sheet.save(&mut buffer);
     Answer::Saved(blocks, buffer)
 }

@@ -1,14 +1,10 @@
-use Rattle.std.proofs.Common.{sym, ◌∙◌, arith}
-use Rattle.history.proofs.Searches.{searched_more, found_here, not_found}
+use Rattle.std.proofs.Common.{◌≡◌, true, false, rules, tests}
+use Rattle.std.proofs.lemmas.Iterator.{IsFirst-from_position, YieldsList-from_slice}
+use Rattle.history.proofs.Searches.{found_of, this_one}
 use Rattle.history.proofs.slips.find.Goals as goal
 
-pub returns-then-is_slip : goal.returns-then-is_slip
-returns-then-is_slip c =
-    found_here c.args.slips.now c.args.job c.args.position c.loop-i.i _ (omega arith) (sym c.is_slip.ensures ∙ c.if-is_slip.true) c.loop-i.invariant
-
-pub loop-i-preserved : goal.loop-i-preserved
-loop-i-preserved c =
-    searched_more c.args.slips.now c.args.job c.args.position c.loop-i.i _ (omega arith) (sym c.is_slip.ensures ∙ c.if-is_slip.false) c.loop-i.invariant
-
 pub returns : goal.returns
-returns c = not_found c.args.slips.now c.args.job c.args.position c.loop-i.i (omega arith) c.loop-i.invariant
+returns c =
+    let slips = c.args.slips.now in
+    let this = this_one c.args.job c.args.position in
+    found_of _ _ slips _ (IsFirst-from_position _ _ _ (λ s. this s ≡ true) (λ s. this s ≡ false) c.position.ensures.ran (YieldsList-from_slice slips cc) (λ x q k. search (rules, tests)) (λ x q k. search (rules, tests)))

@@ -5,26 +5,22 @@ use Rattle.history.proofs.boards.Both.end.Goals as goal
 
 pub take_back-requires : goal.take_back-requires
 take_back-requires g c =
-    fits_first _ _ _ _ _ _ _ _ _ c.loop-slip.invariant c.args.self.apart c.in-Some.ensures.items (sym c.job.ensures ∙ c.if-job.true ∙ c.job-in-Some.ensures.value)
+    fits_first _ _ c.loop-slip.invariant c.args.self.apart c.in-Some.ensures.items (sym c.job.ensures ∙ c.if-job.true ∙ c.job-in-Some.ensures.value)
 
 pub take_back-requires-else-job : goal.take_back-requires-else-job
 take_back-requires-else-job g c =
-    fits_second _ _ _ _ _ _ _ _ _ c.loop-slip.invariant c.args.self.apart c.in-Some.ensures.items (λ same. c.if-job.false (c.job.ensures ∙ same ∙ sym c.job-in-Some.ensures.value))
+    fits_second _ _ c.loop-slip.invariant c.args.self.apart c.in-Some.ensures.items (λ same. c.if-job.false (c.job.ensures ∙ same ∙ sym c.job-in-Some.ensures.value))
 
 pub loop-slip-preserved-then-job : goal.loop-slip-preserved-then-job
 loop-slip-preserved-then-job g c =
-    let popped = c.in-Some.ensures.items in
-    let fits = fits_first _ _ _ _ _ _ _ _ _ c.loop-slip.invariant c.args.self.apart popped (sym c.job.ensures ∙ c.if-job.true ∙ c.job-in-Some.ensures.value) in
-    ending_first _ _ _ _ _ _ _ _ _ c.loop-slip.invariant c.args.self.apart popped _ fits c.take_back.ensures
+    ending_first _ _ c.loop-slip.invariant c.args.self.apart c.in-Some.ensures.items _ (sym c.job.ensures ∙ c.if-job.true ∙ c.job-in-Some.ensures.value) c.take_back.ensures
 
 pub loop-slip-preserved : goal.loop-slip-preserved
 loop-slip-preserved g c =
-    let popped = c.in-Some.ensures.items in
-    let fits = fits_second _ _ _ _ _ _ _ _ _ c.loop-slip.invariant c.args.self.apart popped (λ same. c.if-job.false (c.job.ensures ∙ same ∙ sym c.job-in-Some.ensures.value)) in
-    ending_second _ _ _ _ _ _ _ _ _ c.loop-slip.invariant c.args.self.apart popped _ fits c.take_back-else-job.ensures
+    ending_second _ _ c.loop-slip.invariant c.args.self.apart c.in-Some.ensures.items _ (λ same. c.if-job.false (c.job.ensures ∙ same ∙ sym c.job-in-Some.ensures.value)) c.take_back-else-job.ensures
 
 pub returns : goal.returns
 returns g c =
     let slips = c.loop-slip.slips in
-    let both = ended g.F.Feeder.meaning g.G.Feeder.meaning c.args.self.first c.loop-slip.first c.args.self.second c.loop-slip.second slips.items c.loop-slip.invariant (nil_from_length slips.items (sym slips.ok.0 ∙ c.in_default.ensures.cases.0)) in
+    let both = ended c.loop-slip.invariant (nil_from_length slips.items (sym slips.ok.0 ∙ c.in_default.ensures.cases.0)) in
     record { first = both.0; second = both.1; first_answers = refl; second_answers = refl }

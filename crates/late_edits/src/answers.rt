@@ -1,63 +1,52 @@
 // The answers of a list, as they are printed.
-use super::list::print_verdict;
 use history::call::Answer;
+use listing::shown::Shown;
 use sheet::position::State;
-use std::io;
+use std::{fmt, io};
 
 // A line for each answer that is more than a done, with the number of its call.
 pub(crate) fn print_answers(rt: &impl Print, answers: &[Answer]) -> io::Result<()> {
     for (before, answer) in answers.iter().enumerate() {
-        print_answer(rt, before + 1, answer)?;
+        if !matches!(answer, Answer::Done) {
+            println!(rt; "  call {}: {}", before + 1, InWords(answer))?;
+        }
     }
     Ok(())
 }
 
-fn print_answer(rt: &impl Print, call: usize, answer: &Answer) -> io::Result<()> {
-    match answer {
-        Answer::Done => return Ok(()),
-        _ => print!(rt; "  call {call}: ")?,
-    }
-    match answer {
-        Answer::Done => Ok(()),
-        Answer::Refused(question) => {
-            let number = question.number();
-            println!(rt; "no, question {number}")
-        }
-        Answer::GaveSlip { job, position } => println!(rt;
-            "slip of job {job} for position {position}"
-        ),
-        Answer::Saved(Ok(blocks), _) => println!(rt; "saved in {blocks} blocks"),
-        Answer::Saved(Err(question), _) => {
-            let number = question.number();
-            println!(rt; "not saved, question {number}")
-        }
-        Answer::NotLoaded(no) => {
-            let block = no.block;
-            let number = no.question.number();
-            println!(rt; "not loaded, block {block}, question {number}")
-        }
-        Answer::Shows(state) => print_state(rt, state),
-        Answer::Counted(counts) => {
-            let accepted = counts.accepted;
-            let refused = counts.refused;
-            let opened = counts.opened;
-            println!(rt; "{accepted} accepted, {refused} refused, {opened} open")
-        }
-        Answer::Says(true) => println!(rt; "may be released"),
-        Answer::Says(false) => println!(rt; "may not be released"),
-        Answer::Number(number) => println!(rt; "{number}"),
-        Answer::NotInHand => println!(rt; "that slip is not in hand"),
-    }
-}
+// An answer in words.
+#[derive(Drop)]
+struct InWords<'a>(&'a Answer);
 
-fn print_state(rt: &impl Print, state: &State) -> io::Result<()> {
-    match state {
-        State::Empty => println!(rt; "empty"),
-        State::Standing(_, verdict) => {
-            print!(rt; "stands, ")?;
-            print_verdict(rt, *verdict)?;
-            println!(rt)
+impl fmt::Display for InWords<'_> {
+    fn fmt<W: fmt::Write>(&self, f: &mut fmt::Formatter<W>) -> fmt::Result {
+        match self.0 {
+            Answer::Done => write!(f, "done"),
+            Answer::Refused(question) => write!(f, "no, question {question}"),
+            Answer::GaveSlip { job, position } => {
+                write!(f, "slip of job {job} for position {position}")
+            }
+            Answer::Saved(Ok(blocks), _) => write!(f, "saved in {blocks} blocks"),
+            Answer::Saved(Err(question), _) => write!(f, "not saved, question {question}"),
+            Answer::NotLoaded(no) => {
+                write!(
+                    f,
+                    "not loaded, block {}, question {}",
+                    no.block, no.question
+                )
+            }
+            Answer::Shows(State::Empty) => write!(f, "empty"),
+            Answer::Shows(State::Standing(_, verdict)) => write!(f, "stands, {}", Shown(*verdict)),
+            Answer::Shows(State::Open(_)) => write!(f, "open"),
+            Answer::Counted(counts) => write!(
+                f,
+                "{} accepted, {} refused, {} open",
+                counts.accepted, counts.refused, counts.opened
+            ),
+            Answer::Says(true) => write!(f, "may be released"),
+            Answer::Says(false) => write!(f, "may not be released"),
+            Answer::Number(number) => write!(f, "{number}"),
+            Answer::NotInHand => write!(f, "that slip is not in hand"),
         }
-        State::Open(_) => println!(rt; "open"),
     }
 }

@@ -3,6 +3,7 @@ use super::bars::{mended_bars, tendered};
 use super::trouble::Trouble;
 use history::call::Call;
 use std::alloc::Global;
+use stored::place::LONGEST;
 
 // The number of each board's job.
 pub(crate) const TENDERED: u16 = 701;
@@ -15,9 +16,7 @@ fn entered_then(heap: Global, more: Vec<Call>) -> Result<Vec<Call>, Trouble> {
     for (position, bar) in tendered()? {
         calls.push(Call::Enter { position, bar })?;
     }
-    for call in more {
-        calls.push(call)?;
-    }
+    calls.extend(more)?;
     Ok(calls)
 }
 
@@ -55,7 +54,7 @@ pub(crate) fn revision(heap: Global) -> Result<Vec<Call>, Trouble> {
         Call::SetLevel { level: 18_000 },
         Call::Counts,
         Call::MayRelease,
-        Call::Save { buffer: vec![in heap; 0; 16_896]? },
+        Call::Save { buffer: vec![in heap; 0; LONGEST]? },
     ]?;
     entered_then(heap, more)
 }

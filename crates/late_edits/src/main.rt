@@ -3,25 +3,27 @@
 
 mod answers;
 mod bars;
-mod list;
+mod changes;
 mod lists;
 mod supply;
 mod trouble;
 
 use answers::print_answers;
+use changes::print_changes;
 use feeder::fuse::Fuse;
 use feeder::grid::Grid;
 use feeder::motors::Motors;
-use feeder::tells::Feeder;
 use history::boards::Both;
 use history::both::{Board, replay_both};
 use history::call::Answer;
 use history::end::Ended;
-use list::{print_changes, print_list};
+use listing::list::List;
 use lists::{REVISED, TENDERED, revision, tender};
 use sheet::sheet::Sheet;
 use std::alloc::Global;
 use std::io;
+use stored::block::BLOCK;
+use stored::place::POSITIONS;
 use supply::supply;
 use trouble::Trouble;
 
@@ -39,20 +41,17 @@ fn run(heap: Global) -> Result<Both<Supply, Supply>, Trouble> {
         feeder: supply(heap)?,
         calls: revision(heap)?,
     };
-    match replay_both(heap, first, second) {
-        Ok(both) => Ok(both),
-        Err(not_run) => Err(Trouble::from(not_run.why)),
-    }
+    replay_both(heap, first, second).map_err(|not_run| Trouble::from(not_run.why))
 }
 
 // What both lists answered, and the sheets after them.
 fn print_both(rt: &impl Print, both: &Both<Supply, Supply>, supply: &Supply) -> io::Result<()> {
     println!(rt; "as tendered, job {TENDERED}:")?;
     print_answers(rt, &both.first_answers)?;
-    print_list(rt, &both.first, supply.tell(both.first.level()))?;
+    print!(rt; "{}", List::of(&both.first, supply))?;
     println!(rt; "after the late edits, job {REVISED}:")?;
     print_answers(rt, &both.second_answers)?;
-    print_list(rt, &both.second, supply.tell(both.second.level()))
+    print!(rt; "{}", List::of(&both.second, supply))
 }
 
 // The blocks that were saved, loaded into a new sheet of the same job.
@@ -60,11 +59,9 @@ fn loaded(supply: Supply, answers: Vec<Answer>) -> Result<Sheet<Supply>, Trouble
     let mut sheet = Sheet::new(REVISED, supply);
     for answer in answers {
         if let Answer::Saved(Ok(blocks), mut buffer) = answer {
-            buffer.truncate(512 * blocks.min(33));
-            match sheet.load(&buffer) {
-                Ok(()) => {}
-                Err(no) => return Err(Trouble::Asked(no.question)),
-            }
+            // an answer is plain data, which does not say that the blocks fit the buffer
+            buffer.truncate(BLOCK * blocks.min(1 + POSITIONS));
+            sheet.load(&buffer).map_err(|no| no.question)?;
         }
     }
     Ok(sheet)
@@ -88,21 +85,14 @@ fn work(rt: &impl Print, heap: Global) -> Result<(), Trouble> {
     // the slips that are out come back first, whatever printing does
     let printed = print_both(rt, &both, &told);
     let ended = both.end();
-    match printed {
-        Ok(()) => finish(rt, ended, told),
-        Err(error) => Err(Trouble::Output(error)),
-    }
+    printed?;
+    finish(rt, ended, told)
 }
 
 fn main(rt: HostRuntime) -> io::Result<()> {
     match work(&rt, rt.alloc()) {
         Ok(()) => Ok(()),
         Err(Trouble::Output(error)) => Err(error),
-        Err(Trouble::Asked(question)) => {
-            let number = question.number();
-            println!(rt; "error {number}")
-        }
-        Err(Trouble::SameJob) => println!(rt; "two boards of one job"),
-        Err(Trouble::Memory) => println!(rt; "not enough memory"),
+        Err(trouble) => println!(rt; "{trouble}"),
     }
 }

@@ -5,12 +5,12 @@ use feeder::fuse::Fuse;
 use feeder::grid::Grid;
 use feeder::motors::Motors;
 use feeder::point::Point;
+use samples::supply::grid;
 use std::alloc::Global;
 
 // Up to 20,000 A the fuse lets through a peak of 30,000 A at most, and above nothing is known of it.
 pub(crate) fn supply(heap: Global) -> Result<Fuse<Motors<Grid>>, Trouble> {
-    let grid = Grid::new(1_350, 1_100, 1_000)?;
-    let motors = Motors::new(grid, 452, 400_000_000)?;
+    let motors = Motors::new(grid()?, 452, 400_000_000)?;
     let mut curve = Curve::new(heap);
     curve.add(Point {
         level: 10_000,

@@ -1,57 +1,40 @@
-// What can end the work early.
+// What can end the work early. The program `board` has a type of its own: it knows no hindrance, and a shared one would bring lists of calls into it.
 use busbar::question::Question;
 use feeder::point::CurveError;
 use history::both::Hindrance;
 use std::alloc::{AllocError, AllocFailed};
 use std::io;
+use thiserror::Error;
 
-// A question that got a no, two boards of one job, want of memory, or output that failed.
-#[derive(Drop)]
+// A question that got a no, two boards of one job or want of memory, or output that failed.
+#[derive(Debug, Drop, Error)]
 pub(crate) enum Trouble {
-    Asked(Question),
-    SameJob,
-    Memory,
-    Output(io::Error),
+    #[error("error {0}")]
+    Asked(#[from] Question),
+    #[error(transparent)]
+    Hindered(#[from] Hindrance),
+    #[error(transparent)]
+    Output(#[from] io::Error),
 }
 
-impl From<Question> for Trouble {
-    fn from(question: Question) -> Trouble {
-        Trouble::Asked(question)
-    }
-}
-
+// by hand, since these become cases that are there already
 impl From<CurveError> for Trouble {
     fn from(error: CurveError) -> Trouble {
         match error {
             CurveError::Refused(question) => Trouble::Asked(question),
-            CurveError::Memory => Trouble::Memory,
-        }
-    }
-}
-
-impl From<Hindrance> for Trouble {
-    fn from(why: Hindrance) -> Trouble {
-        match why {
-            Hindrance::SameJob => Trouble::SameJob,
-            Hindrance::Memory => Trouble::Memory,
+            CurveError::Memory => Trouble::Hindered(Hindrance::Memory),
         }
     }
 }
 
 impl From<AllocError> for Trouble {
     fn from(_error: AllocError) -> Trouble {
-        Trouble::Memory
+        Trouble::Hindered(Hindrance::Memory)
     }
 }
 
 impl<T: Drop> From<AllocFailed<T>> for Trouble {
     fn from(_refused: AllocFailed<T>) -> Trouble {
-        Trouble::Memory
-    }
-}
-
-impl From<io::Error> for Trouble {
-    fn from(error: io::Error) -> Trouble {
-        Trouble::Output(error)
+        Trouble::Hindered(Hindrance::Memory)
     }
 }

@@ -8,25 +8,23 @@ use feeder::point::Point;
 use feeder::tells::Feeder;
 use std::alloc::Global;
 
-pub(crate) fn agrees(heap: Global, line: &str) -> bool {
-    match compared(heap, line) {
-        Some(equal) => equal,
-        None => false,
-    }
-}
-
-fn compared(heap: Global, line: &str) -> Option<bool> {
+pub(crate) fn agrees(heap: Global, line: &str) -> Option<bool> {
     let mut row = Row::new(line, '\t');
-    let grid = Grid::new(row.small()?, row.small()?, row.small()?).ok()?;
-    let motors = Motors::new(grid, row.small()?, row.large()?).ok()?;
-    let points = row.word();
-    let level = row.small()?;
+    let grid = Grid::new(row.number()?, row.number()?, row.number()?).ok()?;
+    let motors = Motors::new(grid, row.number()?, row.number()?).ok()?;
+    let points = row.word()?;
+    let level = row.number()?;
     let told = match points {
         "-" => motors.tell(level),
         _ => Fuse::new(motors, curve(heap, points)?).tell(level),
     };
-    let (peak, heat) = told.unwrap_or((0, 0));
-    Some(peak == row.small()? && heat == row.large()?)
+    Some(told == expected(&mut row)?)
+}
+
+// Zeros stand for nothing told.
+fn expected(row: &mut Row) -> Option<Option<(u32, u64)>> {
+    let told = (row.number()?, row.number()?);
+    Some((told != (0, 0)).then_some(told))
 }
 
 // The points of a curve, parted by `;`, each with its level, peak and heat parted by `,`.
@@ -38,9 +36,9 @@ fn curve(heap: Global, text: &str) -> Option<Curve> {
     for point in text.split(';') {
         let mut row = Row::new(point, ',');
         let point = Point {
-            level: row.small()?,
-            peak: row.small()?,
-            heat: row.large()?,
+            level: row.number()?,
+            peak: row.number()?,
+            heat: row.number()?,
         };
         curve.add(point).ok()?;
     }

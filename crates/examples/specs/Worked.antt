@@ -3,19 +3,18 @@ use Rattle.std.specs.Prelude.{◌≡◌, ℕ, true, false, List, [], ◌∷◌, 
 use Rattle.busbar.specs.Figures.{current_force, span_force, sub_force, main_stress_of, sub_stress_of, support_load_of}
 use Rattle.busbar.specs.Record.{passes}
 use Rattle.busbar.specs.Section.{bar_section, stack_section, tube_section}
-use Rattle.busbar.specs.Verdict.{heat_limit, plastic_limit, refused_on, verdict}
+use Rattle.busbar.specs.Verdict.{Verdict, heat_limit, plastic_limit, refused_on, verdict}
 use Rattle.busbar.specs.declared.record.FaultKind.TheVariants.{ThreePhase}
 use Rattle.busbar.specs.declared.record.Record.{Record}
-use Rattle.busbar.specs.declared.record.Scheme.TheVariants.{MoreSpans}
 use Rattle.busbar.specs.declared.section.Section.{Section}
 use Rattle.busbar.specs.declared.verdict.Ground.TheVariants as grounds
-use Rattle.busbar.specs.declared.verdict.Verdict.TheVariants.{Accepted}
 use Rattle.feeder.specs.Fuse.{fuse_tells, in_order}
 use Rattle.feeder.specs.Grid.{grid_sizes, grid_tells}
 use Rattle.feeder.specs.Laws.{Told}
 use Rattle.feeder.specs.Motors.{motors_sizes, motors_tell}
 use Rattle.feeder.specs.declared.point.Point.{Point}
 use Rattle.stored.specs.Block.{check_of}
+use Rattle.samples.specs.Held.{held as usual}
 use Rattle.sheet.specs.Plain.{Plain, fresh}
 use Rattle.sheet.specs.Stored.{saved_blocks, stored}
 
@@ -43,18 +42,7 @@ tube_50_by_5 = record { modulus = 7_245_291; area = 706_857; plastic_factor = 14
 
 -- a bar of this section, with yield stress f in N/mm² and support strength P in N; for one second it bears 100 A/mm²
 abbrev pub held : Section → ℕ → ℕ → Record
-held of_section f P = record {
-  kind = ThreePhase;
-  scheme = MoreSpans;
-  reclosing = false;
-  span = 1_000;
-  centre_distance = 200;
-  distance_factor = 1_000;
-  yield_stress = f;
-  rated_density = 100;
-  support_strength = P;
-  section = of_section;
-}
+held of_section f P = record (usual of_section) { yield_stress = f; support_strength = P }
 
 abbrev pub main_bar : ℕ → ℕ → Record
 main_bar f P = held bar_60_by_10 f P
@@ -75,6 +63,10 @@ fault = Some (fault_peak, 1_000_000_000)
 -- a peak that no bar here minds, with this heat
 abbrev pub fault_of_heat : ℕ → Told
 fault_of_heat Q = Some (1, Q)
+
+-- the verdict on a bar that passes every ground
+abbrev pub accepted : Verdict
+accepted = Ok tt
 
 -- Feeders, at a level n in A.
 
@@ -120,17 +112,17 @@ pub record WorkedBoards : Type 0 where
   pub limit_at_47 : plastic_limit (main_bar 47 3_000) ≡ 70_500
   pub passes_at_48 : passes (main_bar 48 3_000) ≡ true
   pub passes_at_47 : passes (main_bar 47 3_000) ≡ true
-  pub holds_at_48 : verdict (main_bar 48 3_000) fault ≡ Accepted
+  pub holds_at_48 : verdict (main_bar 48 3_000) fault ≡ accepted
   pub bends_at_47 : verdict (main_bar 47 3_000) fault ≡ refused_on grounds.TotalStress 71_123 70_500
   -- ground 5: supports of 2,315 N hold, supports of 2,314 N let go
   pub passes_at_2315 : passes (main_bar 120 2_315) ≡ true
   pub passes_at_2314 : passes (main_bar 120 2_314) ≡ true
-  pub holds_at_2315 : verdict (main_bar 120 2_315) fault ≡ Accepted
+  pub holds_at_2315 : verdict (main_bar 120 2_315) fault ≡ accepted
   pub lets_go_at_2314 : verdict (main_bar 120 2_314) fault ≡ refused_on grounds.SupportLoad 2_314_888 2_314_000
   -- ground 2: the bar bears a heat at its limit, and not one more
   pub heat_borne : heat_limit (main_bar 120 3_000) ≡ 3_600_000_000_000
   pub passes_for_heat : passes (main_bar 120 3_000) ≡ true
-  pub holds_at_the_heat : verdict (main_bar 120 3_000) (fault_of_heat 3_600_000_000_000) ≡ Accepted
+  pub holds_at_the_heat : verdict (main_bar 120 3_000) (fault_of_heat 3_600_000_000_000) ≡ accepted
   pub too_hot_above : verdict (main_bar 120 3_000) (fault_of_heat 3_600_000_000_001) ≡ refused_on grounds.Heat 3_600_000_000_001 3_600_000_000_000
   -- the stack of two: G on a sub-bar in 10 µN, the stresses in kPa
   pub stack_made : stack_section 2 60 10 500 ≡ Ok two_60_by_10

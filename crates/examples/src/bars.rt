@@ -1,50 +1,33 @@
-// The bar that the examples start from, and what is said of one.
+// The bar that the examples start from, and how answers are compared.
 use busbar::checked::CheckedRecord;
-use busbar::record::{FaultKind, Record, Scheme};
-use busbar::section::Section;
-use busbar::verdict::{Verdict, judge};
+use busbar::question::Question;
+use busbar::record::Record;
+use busbar::verdict::judge;
+use samples::held::{BAR_60_BY_10, bar_of};
 
 // A bar 60 by 10, three-phase, in three spans and more, without reclosing.
 pub(crate) fn bar_60_by_10() -> Record {
-    with_section(Section {
-        modulus: 1_000_000,
-        area: 600_000,
-        plastic_factor: 15_000,
-        round: false,
-        sub_bars: None,
-    })
+    bar_of(BAR_60_BY_10)
 }
 
-pub(crate) fn with_section(section: Section) -> Record {
-    Record {
-        kind: FaultKind::ThreePhase,
-        scheme: Scheme::MoreSpans,
-        reclosing: false,
-        span: 1_000,
-        centre_distance: 200,
-        distance_factor: 1_000,
-        yield_stress: 120,
-        rated_density: 100,
-        support_strength: 3_000,
-        section,
-    }
+// An answer with its question by its number.
+pub(crate) fn numbered<T: Drop>(answer: Result<T, Question>) -> Result<(), u32> {
+    answer.map(|_| ()).map_err(Question::number)
 }
 
-// The number of the first question that got a no, 0 where none did.
-pub(crate) fn first_no(record: Record) -> u32 {
-    match CheckedRecord::new(record) {
-        Ok(_) => 0,
-        Err(question) => question.number(),
-    }
+// A record's questions, by the number of the first that got a no.
+pub(crate) fn asked(record: Record) -> Result<(), u32> {
+    numbered(CheckedRecord::new(record))
 }
 
-// Ground, figure and limit of the verdict: zeros where accepted, and 99 where a question got a no.
-pub(crate) fn verdict_on(record: Record, told: Option<(u32, u64)>) -> (u32, u64, u64) {
-    match CheckedRecord::new(record) {
-        Err(_) => (99, 0, 0),
-        Ok(bar) => match judge(&bar, told) {
-            Verdict::Accepted => (0, 0, 0),
-            Verdict::Refused(r) => (r.ground.number(), r.figure, r.limit),
-        },
-    }
+// The ground by its number, then figure and limit.
+pub(crate) type Refused = (u32, u64, u64);
+
+// The verdict on a bar whose questions all got a yes.
+pub(crate) fn verdict_on(
+    record: Record,
+    told: Option<(u32, u64)>,
+) -> Result<Result<(), Refused>, Question> {
+    let bar = CheckedRecord::new(record)?;
+    Ok(judge(&bar, told).map_err(|no| (no.ground.number(), no.figure, no.limit)))
 }

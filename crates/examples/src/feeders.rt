@@ -1,36 +1,31 @@
 // Grid, motors and fuse, by themselves and piled up.
+use super::bars::numbered;
+use busbar::question::Question;
 use feeder::curve::Curve;
 use feeder::fuse::Fuse;
 use feeder::grid::Grid;
 use feeder::motors::Motors;
 use feeder::point::{CurveError, Point};
 use feeder::tells::Feeder;
+use samples::supply::{TWO_POINTS, grid};
 use std::alloc::Global;
-use std::process::Abort;
 use std::test::Fail;
 
-fn grid() -> Result<Grid, Fail> {
-    match Grid::new(1_350, 1_100, 1_000) {
-        Ok(grid) => Ok(grid),
-        Err(_) => Err(Fail::new("these are a grid's sizes")),
-    }
-}
-
-// The number of the answer, 0 where the point went onto the curve, and 1 for want of memory.
-fn added(curve: &mut Curve, level: u32, peak: u32, heat: u64) -> u32 {
-    match curve.add(Point { level, peak, heat }) {
-        Ok(()) => 0,
-        Err(CurveError::Refused(question)) => question.number(),
-        Err(CurveError::Memory) => 1,
+// The number of the question that kept a point off a curve.
+fn refused(answer: Result<(), CurveError>) -> Option<u32> {
+    match answer {
+        Err(CurveError::Refused(question)) => Some(question.number()),
+        Ok(()) | Err(CurveError::Memory) => None,
     }
 }
 
 // The curve of the worked pile.
-fn two_points(rt: &impl Abort, heap: Global) -> Curve {
+fn two_points(heap: Global) -> Result<Curve, CurveError> {
     let mut curve = Curve::new(heap);
-    assert_eq!(rt; added(&mut curve, 10_000, 12_000, 400_000_000), 0);
-    assert_eq!(rt; added(&mut curve, 50_000, 20_000, 900_000_000), 0);
-    curve
+    for point in TWO_POINTS {
+        curve.add(point)?;
+    }
+    Ok(curve)
 }
 
 #[test]
@@ -45,17 +40,10 @@ fn a_grid(rt: HostRuntime) -> Result<(), Fail> {
     Ok(())
 }
 
-fn grid_answer(kappa: u32, factor: u32, duration: u32) -> u32 {
-    match Grid::new(kappa, factor, duration) {
-        Ok(_) => 0,
-        Err(question) => question.number(),
-    }
-}
-
 #[test]
 fn sizes_of_a_grid(rt: HostRuntime) {
-    assert_eq!(rt; grid_answer(1_000, 1, 20), 0);
-    assert_eq!(rt; grid_answer(2_000, 3_000, 5_000), 0);
+    assert_eq!(rt; numbered(Grid::new(1_000, 1, 20)), Ok(()));
+    assert_eq!(rt; numbered(Grid::new(2_000, 3_000, 5_000)), Ok(()));
     for (kappa, factor, duration) in [
         (999, 1, 20),
         (2_001, 1, 20),
@@ -64,16 +52,13 @@ fn sizes_of_a_grid(rt: HostRuntime) {
         (1_000, 1, 19),
         (1_000, 1, 5_001),
     ] {
-        assert_eq!(rt; grid_answer(kappa, factor, duration), 40);
+        assert_eq!(rt; numbered(Grid::new(kappa, factor, duration)), Err(40));
     }
 }
 
-// What motors of the given peak and heat over the grid tell at a level; their number where they may not be made.
-fn over_motors(peak: u32, heat: u64, level: u32) -> Result<Option<(u32, u64)>, Fail> {
-    match Motors::new(grid()?, peak, heat) {
-        Ok(motors) => Ok(motors.tell(level)),
-        Err(question) => Ok(Some((question.number(), 0))),
-    }
+// What motors of the given peak and heat over the grid tell at a level.
+fn over_motors(peak: u32, heat: u64, level: u32) -> Result<Option<(u32, u64)>, Question> {
+    Ok(Motors::new(grid()?, peak, heat)?.tell(level))
 }
 
 #[test]
@@ -87,8 +72,11 @@ fn motors_over_a_grid(rt: HostRuntime) -> Result<(), Fail> {
         over_motors(50_000, 50_000_000_000_000, 16_000)?,
         Some((80_548, 50_281_600_000_000))
     );
-    assert_eq!(rt; over_motors(50_001, 0, 16_000)?, Some((41, 0)));
-    assert_eq!(rt; over_motors(0, 50_000_000_000_001, 16_000)?, Some((41, 0)));
+    assert_eq!(rt; numbered(over_motors(50_001, 0, 16_000)), Err(41));
+    assert_eq!(rt;
+        numbered(over_motors(0, 50_000_000_000_001, 16_000)),
+        Err(41)
+    );
     assert_eq!(rt; over_motors(0, 0, 99)?, None);
     Ok(())
 }
@@ -97,47 +85,28 @@ fn motors_over_a_grid(rt: HostRuntime) -> Result<(), Fail> {
 #[test]
 fn sums_at_their_maxima(rt: HostRuntime) -> Result<(), Fail> {
     for (peak, told) in [(9_081, Some(300_000)), (9_082, None)] {
-        let two = motors(motors(grid()?, 50_000, 0)?, 50_000, 0)?;
-        assert_eq!(rt; peak_of(motors(two, peak, 0)?.tell(100_000)), told);
+        let one = Motors::new(grid()?, 50_000, 0)?;
+        let two = Motors::new(one, 50_000, 0)?;
+        let three = Motors::new(two, peak, 0)?;
+        assert_eq!(rt; three.tell(100_000).map(|(peak, _)| peak), told);
     }
     let most = 50_000_000_000_000;
     for (heat, told) in [
         (39_000_000_000_000, Some(200_000_000_000_000)),
         (39_000_000_000_001, None),
     ] {
-        let two = motors(motors(grid()?, 0, most)?, 0, most)?;
-        assert_eq!(rt;
-            heat_of(motors(motors(two, 0, most)?, 0, heat)?.tell(100_000)),
-            told
-        );
+        let one = Motors::new(grid()?, 0, most)?;
+        let two = Motors::new(one, 0, most)?;
+        let three = Motors::new(two, 0, most)?;
+        let four = Motors::new(three, 0, heat)?;
+        assert_eq!(rt; four.tell(100_000).map(|(_, heat)| heat), told);
     }
     Ok(())
 }
 
-fn motors<F: Feeder + Drop>(below: F, peak: u32, heat: u64) -> Result<Motors<F>, Fail> {
-    match Motors::new(below, peak, heat) {
-        Ok(motors) => Ok(motors),
-        Err(_) => Err(Fail::new("these are motors' sizes")),
-    }
-}
-
-fn peak_of(told: Option<(u32, u64)>) -> Option<u32> {
-    match told {
-        Some((peak, _)) => Some(peak),
-        None => None,
-    }
-}
-
-fn heat_of(told: Option<(u32, u64)>) -> Option<u64> {
-    match told {
-        Some((_, heat)) => Some(heat),
-        None => None,
-    }
-}
-
 #[test]
 fn a_fuse_over_a_grid(rt: HostRuntime) -> Result<(), Fail> {
-    let fuse = Fuse::new(grid()?, two_points(&rt, rt.alloc()));
+    let fuse = Fuse::new(grid()?, two_points(rt.alloc())?);
     assert_eq!(rt; fuse.tell(16_000), Some((20_000, 900_000_000)));
     assert_eq!(rt; fuse.tell(10_000), Some((12_000, 400_000_000)));
     assert_eq!(rt; fuse.tell(10_001), Some((19_094, 900_000_000)));
@@ -154,7 +123,7 @@ fn a_fuse_over_a_grid(rt: HostRuntime) -> Result<(), Fail> {
 // A refused point leaves the curve as it was: the fuse over it tells what the one before tells.
 #[test]
 fn points_that_do_not_fit(rt: HostRuntime) -> Result<(), Fail> {
-    let mut curve = two_points(&rt, rt.alloc());
+    let mut curve = two_points(rt.alloc())?;
     for (level, peak, heat) in [
         (50_000, 20_000, 900_000_000),
         (49_999, 20_000, 900_000_000),
@@ -164,16 +133,20 @@ fn points_that_do_not_fit(rt: HostRuntime) -> Result<(), Fail> {
         (60_000, 300_001, 900_000_000),
         (60_000, 20_000, 200_000_000_000_001),
     ] {
-        assert_eq!(rt; added(&mut curve, level, peak, heat), 42);
+        assert_eq!(rt; refused(curve.add(Point { level, peak, heat })), Some(42));
     }
     let fuse = Fuse::new(grid()?, curve);
     assert_eq!(rt; fuse.tell(50_000), Some((20_000, 900_000_000)));
     assert_eq!(rt; fuse.tell(50_001), None);
     let mut first = Curve::new(rt.alloc());
     for (level, peak, heat) in [(99, 1, 1), (100, 0, 1), (100, 1, 0)] {
-        assert_eq!(rt; added(&mut first, level, peak, heat), 42);
+        assert_eq!(rt; refused(first.add(Point { level, peak, heat })), Some(42));
     }
-    assert_eq!(rt; added(&mut first, 100, 1, 1), 0);
+    first.add(Point {
+        level: 100,
+        peak: 1,
+        heat: 1,
+    })?;
     Ok(())
 }
 
@@ -181,9 +154,18 @@ fn points_that_do_not_fit(rt: HostRuntime) -> Result<(), Fail> {
 fn a_ninth_point(rt: HostRuntime) -> Result<(), Fail> {
     let mut curve = Curve::new(rt.alloc());
     for level in 1_000..1_008u32 {
-        assert_eq!(rt; added(&mut curve, level, 500, 1_000), 0);
+        curve.add(Point {
+            level,
+            peak: 500,
+            heat: 1_000,
+        })?;
     }
-    assert_eq!(rt; added(&mut curve, 2_000, 500, 1_000), 42);
+    let ninth = Point {
+        level: 2_000,
+        peak: 500,
+        heat: 1_000,
+    };
+    assert_eq!(rt; refused(curve.add(ninth)), Some(42));
     let fuse = Fuse::new(grid()?, curve);
     assert_eq!(rt; fuse.tell(1_007), Some((500, 1_000)));
     assert_eq!(rt; fuse.tell(1_008), None);
@@ -193,10 +175,14 @@ fn a_ninth_point(rt: HostRuntime) -> Result<(), Fail> {
 // A pile of four: a fuse over motors over a fuse over a grid.
 #[test]
 fn a_pile_of_four(rt: HostRuntime) -> Result<(), Fail> {
-    let lower: Fuse<Grid> = Fuse::new(grid()?, two_points(&rt, rt.alloc()));
-    let motors: Motors<Fuse<Grid>> = motors(lower, 5_000, 100_000_000)?;
+    let lower: Fuse<Grid> = Fuse::new(grid()?, two_points(rt.alloc())?);
+    let motors: Motors<Fuse<Grid>> = Motors::new(lower, 5_000, 100_000_000)?;
     let mut curve = Curve::new(rt.alloc());
-    assert_eq!(rt; added(&mut curve, 40_000, 24_000, 2_000_000_000), 0);
+    curve.add(Point {
+        level: 40_000,
+        peak: 24_000,
+        heat: 2_000_000_000,
+    })?;
     let pile: Fuse<Motors<Fuse<Grid>>> = Fuse::new(motors, curve);
     assert_eq!(rt; pile.tell(10_000), Some((17_000, 500_000_000)));
     assert_eq!(rt; pile.tell(16_000), Some((24_000, 1_000_000_000)));

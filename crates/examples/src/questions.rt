@@ -1,152 +1,198 @@
 // A record's questions: the ends of every range, each no by itself, and two at once.
-use super::bars::{bar_60_by_10, first_no, with_section};
+use super::bars::{asked, bar_60_by_10};
 use busbar::record::Record;
 use busbar::section::{Section, SubBars};
+use samples::held::bar_of;
 use std::test::Fail;
 
-// The bar of the examples, with one number put into the field of a question.
-fn with(question: u32, value: u32) -> Record {
-    let mut bar = bar_60_by_10();
-    match question {
-        11 => bar.span = value,
-        12 => bar.centre_distance = value,
-        13 => bar.distance_factor = value,
-        14 => bar.yield_stress = value,
-        15 => bar.rated_density = value,
-        16 => bar.support_strength = value,
-        _ => {}
-    }
-    bar
+// A field that has a question of its own.
+#[derive(Clone, Copy)]
+enum Field {
+    Span,
+    CentreDistance,
+    DistanceFactor,
+    YieldStress,
+    RatedDensity,
+    SupportStrength,
 }
 
-// question, least, most
-const RANGES: [(u32, u32, u32); 6] = [
-    (11, 50, 3_000),
-    (12, 20, 1_000),
-    (13, 100, 1_500),
-    (14, 20, 400),
-    (15, 50, 200),
-    (16, 100, 100_000),
+impl Field {
+    // The record with this number in the field.
+    fn put(self, mut bar: Record, value: u32) -> Record {
+        match self {
+            Field::Span => bar.span = value,
+            Field::CentreDistance => bar.centre_distance = value,
+            Field::DistanceFactor => bar.distance_factor = value,
+            Field::YieldStress => bar.yield_stress = value,
+            Field::RatedDensity => bar.rated_density = value,
+            Field::SupportStrength => bar.support_strength = value,
+        }
+        bar
+    }
+}
+
+// field, number of its question, least, most
+const RANGES: [(Field, u32, u32, u32); 6] = [
+    (Field::Span, 11, 50, 3_000),
+    (Field::CentreDistance, 12, 20, 1_000),
+    (Field::DistanceFactor, 13, 100, 1_500),
+    (Field::YieldStress, 14, 20, 400),
+    (Field::RatedDensity, 15, 50, 200),
+    (Field::SupportStrength, 16, 100, 100_000),
 ];
 
 #[test]
 fn ends_of_the_ranges(rt: HostRuntime) {
-    for (question, least, most) in RANGES {
-        assert_eq!(rt; first_no(with(question, least)), 0);
-        assert_eq!(rt; first_no(with(question, most)), 0);
-        assert_eq!(rt; first_no(with(question, least.saturating_sub(1))), question);
-        assert_eq!(rt; first_no(with(question, most.saturating_add(1))), question);
-        assert_eq!(rt; first_no(with(question, u32::MAX)), question);
+    let bar = bar_60_by_10();
+    for (field, question, least, most) in RANGES {
+        for value in [least, most] {
+            assert_eq!(rt; asked(field.put(bar, value)), Ok(()));
+        }
+        for value in [least.saturating_sub(1), most.saturating_add(1), u32::MAX] {
+            assert_eq!(rt; asked(field.put(bar, value)), Err(question));
+        }
     }
 }
 
-// The two bars of a stack at the given figures.
-fn stack(
-    modulus: u32,
-    area: u32,
-    plastic_factor: u32,
-    count: u32,
-    one: u32,
-    distance: u32,
-    spacing: u32,
-) -> Section {
-    Section {
-        modulus,
-        area,
-        plastic_factor,
-        round: false,
-        sub_bars: Some(SubBars {
-            count,
-            modulus: one,
-            distance,
-            spacing,
-        }),
-    }
+// A stack of two at the least figures, and its bars.
+const LEAST: Section = Section {
+    modulus: 10_000,
+    area: 30_000,
+    plastic_factor: 10_000,
+    round: false,
+    sub_bars: Some(LEAST_BARS),
+};
+
+const LEAST_BARS: SubBars = SubBars {
+    count: 2,
+    modulus: 10_000,
+    distance: 13,
+    spacing: 20,
+};
+
+// A bar of the stack with other bars in it.
+fn of_bars(bars: SubBars) -> Record {
+    bar_of(Section {
+        sub_bars: Some(bars),
+        ..LEAST
+    })
 }
 
 #[test]
 fn section_figures(rt: HostRuntime) {
-    let least = stack(10_000, 30_000, 10_000, 2, 10_000, 13, 20);
-    assert_eq!(rt; first_no(with_section(least)), 0);
-    let most = stack(
-        1_000_000_000,
-        32_000_000,
-        17_000,
-        3,
-        1_000_000_000,
-        80,
-        1_000,
-    );
-    assert_eq!(rt; first_no(with_section(most)), 0);
-    for past in [
-        stack(9_999, 30_000, 10_000, 2, 10_000, 13, 20),
-        stack(1_000_000_001, 30_000, 10_000, 2, 10_000, 13, 20),
-        stack(10_000, 29_999, 10_000, 2, 10_000, 13, 20),
-        stack(10_000, 32_000_001, 10_000, 2, 10_000, 13, 20),
-        stack(10_000, 30_000, 9_999, 2, 10_000, 13, 20),
-        stack(10_000, 30_000, 17_001, 2, 10_000, 13, 20),
-        stack(10_000, 30_000, 10_000, 1, 10_000, 13, 20),
-        stack(10_000, 30_000, 10_000, 4, 10_000, 13, 20),
-        stack(10_000, 30_000, 10_000, 2, 9_999, 13, 20),
-        stack(10_000, 30_000, 10_000, 2, 1_000_000_001, 13, 20),
-        stack(10_000, 30_000, 10_000, 2, 10_000, 12, 20),
-        stack(10_000, 30_000, 10_000, 2, 10_000, 81, 20),
-        stack(10_000, 30_000, 10_000, 2, 10_000, 13, 19),
-        stack(10_000, 30_000, 10_000, 2, 10_000, 13, 3_001),
-        stack(10_000, 30_000, 10_000, 0, 0, 0, 0),
-    ] {
-        assert_eq!(rt; first_no(with_section(past)), 10);
+    assert_eq!(rt; asked(bar_of(LEAST)), Ok(()));
+    let most = Section {
+        modulus: 1_000_000_000,
+        area: 32_000_000,
+        plastic_factor: 17_000,
+        round: false,
+        sub_bars: Some(SubBars {
+            count: 3,
+            modulus: 1_000_000_000,
+            distance: 80,
+            spacing: 1_000,
+        }),
+    };
+    assert_eq!(rt; asked(bar_of(most)), Ok(()));
+    for modulus in [9_999, 1_000_000_001] {
+        assert_eq!(rt; asked(bar_of(Section { modulus, ..LEAST })), Err(10));
+        assert_eq!(rt;
+            asked(of_bars(SubBars {
+                modulus,
+                ..LEAST_BARS
+            })),
+            Err(10)
+        );
     }
+    for area in [29_999, 32_000_001] {
+        assert_eq!(rt; asked(bar_of(Section { area, ..LEAST })), Err(10));
+    }
+    for plastic_factor in [9_999, 17_001] {
+        assert_eq!(rt;
+            asked(bar_of(Section {
+                plastic_factor,
+                ..LEAST
+            })),
+            Err(10)
+        );
+    }
+    for count in [1, 4] {
+        assert_eq!(rt;
+            asked(of_bars(SubBars {
+                count,
+                ..LEAST_BARS
+            })),
+            Err(10)
+        );
+    }
+    for distance in [12, 81] {
+        assert_eq!(rt;
+            asked(of_bars(SubBars {
+                distance,
+                ..LEAST_BARS
+            })),
+            Err(10)
+        );
+    }
+    for spacing in [19, 3_001] {
+        assert_eq!(rt;
+            asked(of_bars(SubBars {
+                spacing,
+                ..LEAST_BARS
+            })),
+            Err(10)
+        );
+    }
+    assert_eq!(rt; asked(of_bars(SubBars::default())), Err(10));
 }
 
 // A round section's k is 1,000; its other numbers stay inside the range and get a no all the same.
 #[test]
 fn round_sections(rt: HostRuntime) -> Result<(), Fail> {
-    let Ok(rod) = Section::rod(50) else {
-        return Err(Fail::new("50 is a rod's size"));
-    };
-    let mut bar = with_section(rod);
-    assert_eq!(rt; first_no(bar), 0);
+    let mut bar = bar_of(Section::rod(50)?);
+    assert_eq!(rt; asked(bar), Ok(()));
     for factor in [999, 1_001] {
         bar.distance_factor = factor;
-        assert_eq!(rt; first_no(bar), 13);
+        assert_eq!(rt; asked(bar), Err(13));
     }
     Ok(())
+}
+
+// A bar whose pieces are 400 mm apart.
+fn with_pieces() -> Record {
+    of_bars(SubBars {
+        spacing: 400,
+        ..LEAST_BARS
+    })
 }
 
 // The pieces lie no further apart than the supports; without sub-bars nothing is asked.
 #[test]
 fn pieces_inside_the_span(rt: HostRuntime) {
-    let mut bar = with_section(stack(10_000, 30_000, 10_000, 2, 10_000, 13, 400));
-    bar.span = 400;
-    assert_eq!(rt; first_no(bar), 0);
-    bar.span = 399;
-    assert_eq!(rt; first_no(bar), 17);
+    for (span, answer) in [(400, Ok(())), (399, Err(17))] {
+        let bar = Record {
+            span,
+            ..with_pieces()
+        };
+        assert_eq!(rt; asked(bar), answer);
+    }
 }
 
 // Of two noes the first counts, in the order of the questions.
 #[test]
 fn two_at_once(rt: HostRuntime) {
-    let order = [11, 12, 13, 14, 15, 16];
-    for i in 0..6usize {
-        for j in 0..6usize {
-            let mut bar = with(order[i], 0);
-            match order[j] {
-                11 => bar.span = 0,
-                12 => bar.centre_distance = 0,
-                13 => bar.distance_factor = 0,
-                14 => bar.yield_stress = 0,
-                15 => bar.rated_density = 0,
-                _ => bar.support_strength = 0,
-            }
-            assert_eq!(rt; first_no(bar), order[i.min(j)]);
+    for (one, question, _, _) in RANGES {
+        for (other, second, _, _) in RANGES {
+            let bar = other.put(one.put(bar_60_by_10(), 0), 0);
+            assert_eq!(rt; asked(bar), Err(question.min(second)));
         }
     }
-    let mut bar = with_section(stack(9_999, 30_000, 10_000, 2, 10_000, 13, 400));
+    let mut bar = with_pieces();
+    bar.section.modulus = 9_999;
     bar.span = 0;
-    assert_eq!(rt; first_no(bar), 10);
-    bar = with_section(stack(10_000, 30_000, 10_000, 2, 10_000, 13, 400));
+    assert_eq!(rt; asked(bar), Err(10));
+    bar = with_pieces();
     bar.span = 399;
     bar.support_strength = 0;
-    assert_eq!(rt; first_no(bar), 16);
+    assert_eq!(rt; asked(bar), Err(16));
 }

@@ -2,107 +2,67 @@
 ghost use Rattle.sheet.specs.Happened.{plain_of};
 ghost use Rattle.sheet.specs.Slips.{Fits};
 
-use super::bars::bar_60_by_10;
+use super::bars::{bar_60_by_10, numbered};
 use busbar::question::Question;
 use busbar::record::Record;
-use busbar::verdict::Verdict;
 use feeder::grid::Grid;
 use feeder::tells::Feeder;
+use samples::supply::grid;
+use sheet::counts::Counts;
 use sheet::position::State;
-use sheet::sheet::Sheet;
+use sheet::sheet::{POSITIONS, Sheet};
 use sheet::slip::{Slip, Unspent};
 use std::test::Fail;
 
-pub(crate) fn new_sheet(job: u16) -> Result<Sheet<Grid>, Fail> {
-    match Grid::new(1_350, 1_100, 1_000) {
-        Ok(grid) => Ok(Sheet::new(job, grid)),
-        Err(_) => Err(Fail::new("these are a grid's sizes")),
-    }
-}
-
-pub(crate) fn number(answer: Result<(), Question>) -> u32 {
-    match answer {
-        Ok(()) => 0,
-        Err(question) => question.number(),
-    }
+pub(crate) fn new_sheet(job: u16) -> Result<Sheet<Grid>, Question> {
+    Ok(Sheet::new(job, grid()?))
 }
 
 // A record of which the span gets a no.
 fn bad_bar() -> Record {
-    let mut bar = bar_60_by_10();
-    bar.span = 0;
-    bar
+    Record {
+        span: 0,
+        ..bar_60_by_10()
+    }
 }
 
-// What a sheet shows: its level, and of each position 0 for empty, 1 for accepted, the ground and 10 for refused, 99 for open.
-pub(crate) fn shown<F: Feeder>(sheet: &Sheet<F>) -> [u32; 33] {
-    let mut all = [0; 33];
-    all[0] = sheet.level();
-    for position in 1..33u32 {
-        if let Ok(state) = sheet.position(position) {
-            all[position as usize] = match state {
-                State::Empty => 0,
-                State::Standing(_, verdict) => match verdict {
-                    Verdict::Accepted => 1,
-                    Verdict::Refused(refusal) => refusal.ground.number() % 10 + 10,
-                },
-                State::Open(_) => 99,
-            };
-        }
-    }
-    all
+// What a sheet shows: its level, and every position's state.
+pub(crate) fn shown<F: Feeder>(sheet: &Sheet<F>) -> (u32, [State; POSITIONS]) {
+    (sheet.level(), *sheet.states())
 }
 
 // The answer of opening; the slip is withdrawn at once.
-fn opened(sheet: &mut Sheet<Grid>, position: u32) -> u32 {
-    match sheet.open(position) {
-        Ok(slip) => {
-            spend(sheet, slip);
-            0
-        }
-        Err(question) => question.number(),
-    }
-}
-
-// Withdraws a slip that the sheet gave.
-fn spend(sheet: &mut Sheet<Grid>, slip: Slip)
-    requires { Fits slip (plain_of sheet.old) }
-{
-    match sheet.withdraw(slip) {
-        Ok(()) => {}
-        Err(_) => unreachable(),
-    }
+fn opened(sheet: &mut Sheet<Grid>, position: u32) -> Result<(), Question> {
+    let slip = sheet.open(position)?;
+    sheet.withdraw(slip).unwrap();
+    Ok(())
 }
 
 #[test]
 fn numbers_of_the_calls(rt: HostRuntime) -> Result<(), Fail> {
     let mut sheet = new_sheet(1)?;
     assert_eq!(rt; sheet.job(), 1);
-    assert_eq!(rt; number(sheet.enter(1, bar_60_by_10())), 0);
-    assert_eq!(rt; number(sheet.set_level(16_000)), 0);
+    sheet.enter(1, bar_60_by_10())?;
+    sheet.set_level(16_000)?;
     let before = shown(&sheet);
     for (position, answer) in [(0, 18), (33, 18), (1, 19), (2, 11)] {
-        assert_eq!(rt; number(sheet.enter(position, bad_bar())), answer);
+        assert_eq!(rt; numbered(sheet.enter(position, bad_bar())), Err(answer));
     }
     for (position, answer) in [(0, 18), (33, 18), (2, 20)] {
-        assert_eq!(rt; number(sheet.strike(position)), answer);
-        assert_eq!(rt; opened(&mut sheet, position), answer);
+        assert_eq!(rt; numbered(sheet.strike(position)), Err(answer));
+        assert_eq!(rt; numbered(opened(&mut sheet, position)), Err(answer));
     }
     for level in [0, 99, 100_001, u32::MAX] {
-        assert_eq!(rt; number(sheet.set_level(level)), 21);
+        assert_eq!(rt; numbered(sheet.set_level(level)), Err(21));
     }
     for position in [0, 33, u32::MAX] {
-        let asked = match sheet.position(position) {
-            Ok(_) => 0,
-            Err(question) => question.number(),
-        };
-        assert_eq!(rt; asked, 18);
+        assert_eq!(rt; numbered(sheet.position(position)), Err(18));
     }
     assert!(rt; shown(&sheet) == before);
-    assert_eq!(rt; opened(&mut sheet, 1), 0);
+    opened(&mut sheet, 1)?;
     assert!(rt; shown(&sheet) == before);
-    assert_eq!(rt; number(sheet.strike(1)), 0);
-    assert_eq!(rt; shown(&sheet)[1], 0);
+    sheet.strike(1)?;
+    assert_eq!(rt; sheet.position(1)?, State::Empty);
     Ok(())
 }
 
@@ -112,82 +72,80 @@ fn a_revised_level(rt: HostRuntime) -> Result<(), Fail> {
     let mut sheet = new_sheet(1)?;
     assert!(rt; !sheet.may_release());
     for position in [1, 32] {
-        assert_eq!(rt; number(sheet.enter(position, bar_60_by_10())), 0);
+        sheet.enter(position, bar_60_by_10())?;
     }
     assert_eq!(rt; sheet.counts().refused, 2);
     assert!(rt; !sheet.may_release());
-    assert_eq!(rt; number(sheet.set_level(16_000)), 0);
+    sheet.set_level(16_000)?;
     assert_eq!(rt; sheet.counts().accepted, 2);
     assert_eq!(rt; sheet.counts().refused, 0);
     assert!(rt; sheet.may_release());
     Ok(())
 }
 
-// While a position is open: the numbers of each call on it. The slip is spent at the end.
-fn numbers_while_open(sheet: &mut Sheet<Grid>, slip: Slip) -> [u32; 5]
+// The answer of closing with a slip that fits; on a no the slip is withdrawn.
+fn closed(sheet: &mut Sheet<Grid>, slip: Slip, bar: Record) -> Result<(), Question>
     requires { Fits slip (plain_of sheet.old) }
 {
-    let mut buffer = [0u8; 2_048];
-    let saved = match sheet.save(&mut buffer) {
-        Ok(_) => 0,
-        Err(question) => question.number(),
-    };
-    let closed = match sheet.close(slip, bad_bar()) {
-        Ok(()) => 0,
-        Err(unspent) => {
-            let Unspent { slip, question } = unspent;
-            spend(sheet, slip);
-            question.number()
+    match sheet.close(slip, bar) {
+        Ok(()) => Ok(()),
+        Err(Unspent { slip, question }) => {
+            sheet.withdraw(slip).unwrap();
+            Err(question)
         }
-    };
-    [
-        saved,
-        closed,
-        sheet.counts().opened,
-        sheet.counts().accepted,
-        sheet.counts().refused,
-    ]
+    }
 }
 
+// The answers while a position is open. The slip is spent at the end.
 #[test]
 fn an_open_position(rt: HostRuntime) -> Result<(), Fail> {
     let mut sheet = new_sheet(1)?;
-    assert_eq!(rt; number(sheet.enter(3, bar_60_by_10())), 0);
-    assert_eq!(rt; number(sheet.set_level(16_000)), 0);
+    sheet.enter(3, bar_60_by_10())?;
+    sheet.set_level(16_000)?;
     let before = shown(&sheet);
-    let answers = match sheet.open(3) {
-        Ok(slip) => numbers_while_open(&mut sheet, slip),
-        Err(_) => [99; 5],
+    let slip = sheet.open(3)?;
+    let mut buffer = [0u8; 2_048];
+    let saved = numbered(sheet.save(&mut buffer));
+    let closed = numbered(closed(&mut sheet, slip, bad_bar()));
+    assert_eq!(rt; (saved, closed), (Err(23), Err(11)));
+    let counts = Counts {
+        accepted: 1,
+        refused: 0,
+        opened: 0,
     };
-    assert!(rt; answers == [23, 11, 0, 1, 0]);
+    assert_eq!(rt; sheet.counts(), counts);
     assert!(rt; shown(&sheet) == before);
     Ok(())
 }
 
-// A slip tried on a sheet that did not give it: the number, and the slip back.
-fn tried_elsewhere(mine: &mut Sheet<Grid>, other: &mut Sheet<Grid>, position: u32) -> u32 {
-    match mine.open(position) {
-        Ok(slip) => match other.withdraw(slip) {
-            Ok(()) => 0,
-            Err(unspent) => {
-                let Unspent { slip, question } = unspent;
-                spend(mine, slip);
-                question.number()
-            }
-        },
-        Err(_) => 98,
+// A slip tried on a sheet that did not give it, and withdrawn from the one that did.
+fn tried_elsewhere(
+    mine: &mut Sheet<Grid>,
+    other: &mut Sheet<Grid>,
+    position: u32,
+) -> Result<(), Question> {
+    let slip = mine.open(position)?;
+    match other.withdraw(slip) {
+        Ok(()) => Ok(()),
+        Err(Unspent { slip, question }) => {
+            mine.withdraw(slip).unwrap();
+            Err(question)
+        }
     }
 }
 
 #[test]
 fn slips_of_another_sheet(rt: HostRuntime) -> Result<(), Fail> {
     let mut mine = new_sheet(1)?;
-    assert_eq!(rt; number(mine.enter(3, bar_60_by_10())), 0);
+    mine.enter(3, bar_60_by_10())?;
     for job in [2, 1] {
         let mut other = new_sheet(job)?;
-        assert_eq!(rt; number(other.enter(3, bar_60_by_10())), 0);
+        other.enter(3, bar_60_by_10())?;
         let before = shown(&other);
-        assert_eq!(rt; tried_elsewhere(&mut mine, &mut other, 3), 22);
+        assert_eq!(rt;
+            numbered(tried_elsewhere(&mut mine, &mut other, 3)),
+            Err(22)
+        );
         assert!(rt; shown(&other) == before);
     }
     assert_eq!(rt; mine.counts().opened, 0);

@@ -1,6 +1,7 @@
 // The bars that the lists speak of, each by its name.
-use busbar::record::{FaultKind, Record, Scheme};
+use busbar::record::Record;
 use busbar::section::{Section, SubBars};
+use samples::held::{BAR_60_BY_10, bar_of};
 
 // Each in three spans and more, one metre each, 200 mm from its neighbours, without reclosing.
 #[derive(Clone, Copy)]
@@ -15,65 +16,58 @@ pub(crate) enum Bar {
     Tube,
     // the flat bar with spans of 1,200 mm: harder than it
     Long,
-    // a bar of which the question of this number, 10 to 17, gets the first no
+    // a bar of which the question of this number, 10 to 17, gets the first no: by its number, as the lists say the no
     Bad(u32),
 }
 
-pub(crate) fn record(bar: Bar) -> Record {
-    match bar {
-        Bar::Flat => spanning(1_000, solid(1_000_000, 600_000, 15_000, false)),
-        Bar::Light => spanning(1_000, solid(240_000, 240_000, 15_000, false)),
-        Bar::Stack => spanning(1_000, stack()),
-        Bar::Tube => spanning(1_000, solid(7_245_291, 706_857, 14_051, true)),
-        Bar::Long => spanning(1_200, solid(1_000_000, 600_000, 15_000, false)),
-        Bar::Bad(question) => bad(question),
-    }
-}
+const LIGHT: Section = Section {
+    modulus: 240_000,
+    area: 240_000,
+    plastic_factor: 15_000,
+    round: false,
+    sub_bars: None,
+};
 
-fn spanning(span: u32, section: Section) -> Record {
-    Record {
-        kind: FaultKind::ThreePhase,
-        scheme: Scheme::MoreSpans,
-        reclosing: false,
-        span,
-        centre_distance: 200,
-        distance_factor: 1_000,
-        yield_stress: 120,
-        rated_density: 100,
-        support_strength: 3_000,
-        section,
-    }
-}
+const STACK: Section = Section {
+    modulus: 2_000_000,
+    area: 1_200_000,
+    plastic_factor: 15_000,
+    round: false,
+    sub_bars: Some(SubBars {
+        count: 2,
+        modulus: 1_000_000,
+        distance: 34,
+        spacing: 500,
+    }),
+};
 
-// A section without sub-bars: W, A and q.
-fn solid(modulus: u32, area: u32, plastic_factor: u32, round: bool) -> Section {
-    Section {
-        modulus,
-        area,
-        plastic_factor,
-        round,
-        sub_bars: None,
-    }
-}
+const TUBE: Section = Section {
+    modulus: 7_245_291,
+    area: 706_857,
+    plastic_factor: 14_051,
+    round: true,
+    sub_bars: None,
+};
 
-fn stack() -> Section {
-    Section {
-        modulus: 2_000_000,
-        area: 1_200_000,
-        plastic_factor: 15_000,
-        round: false,
-        sub_bars: Some(SubBars {
-            count: 2,
-            modulus: 1_000_000,
-            distance: 34,
-            spacing: 500,
-        }),
+impl Bar {
+    pub(crate) fn record(self) -> Record {
+        match self {
+            Bar::Flat => bar_of(BAR_60_BY_10),
+            Bar::Light => bar_of(LIGHT),
+            Bar::Stack => bar_of(STACK),
+            Bar::Tube => bar_of(TUBE),
+            Bar::Long => Record {
+                span: 1_200,
+                ..bar_of(BAR_60_BY_10)
+            },
+            Bar::Bad(question) => bad(question),
+        }
     }
 }
 
 // The stack with one number outside its limits; for 17 the supports are nearer than the pieces.
 fn bad(question: u32) -> Record {
-    let mut bar = spanning(1_000, stack());
+    let mut bar = bar_of(STACK);
     match question {
         10 => bar.section.modulus = 9_999,
         11 => bar.span = 3_001,

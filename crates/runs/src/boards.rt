@@ -1,18 +1,18 @@
 // Boards for the lists, and running two of them.
-use super::said::{Said, first_other, same, shown};
-use super::steps::{Given, Step, calls};
+use super::said::{Said, first_other};
+use super::steps::{Given, Step};
+use busbar::question::Question;
 use feeder::curve::Curve;
 use feeder::grid::Grid;
 use feeder::motors::Motors;
-use feeder::point::Point;
+use feeder::point::{CurveError, Point};
 use feeder::tells::Feeder;
 use history::both::{Board, replay_both};
 use history::call::Answer;
-use history::end::Ended;
+use samples::supply::grid;
 use sheet::sheet::Sheet;
 use sheet::slip::Slip;
-use std::alloc::Global;
-use std::process::Abort;
+use std::alloc::{AllocError, Global};
 use std::test::Fail;
 
 // The jobs of the two boards.
@@ -20,30 +20,53 @@ pub(crate) const FIRST: u16 = 7;
 
 pub(crate) const SECOND: u16 = 65_535;
 
-// The lists of the two boards, with what is answered and what comes of it.
+// One board's list.
+#[derive(Clone, Copy)]
+pub(crate) struct List<'a> {
+    // each call with its answer
+    pub(crate) steps: &'a [(Step, Said)],
+    // what positions of the sheet show once every slip is withdrawn, and nothing is open
+    pub(crate) end: &'a [(u32, Said)],
+}
+
+// The lists of the two boards, and what comes of them.
 #[derive(Clone, Copy)]
 pub(crate) struct Lists<'a> {
-    pub(crate) first: &'a [(Step, Said)],
-    pub(crate) second: &'a [(Step, Said)],
+    pub(crate) first: List<'a>,
+    pub(crate) second: List<'a>,
     // the slips that are out after both lists: job and position, in their order
     pub(crate) hand: &'a [(u16, u32)],
-    // what positions of the two sheets show once every slip is withdrawn, and nothing is open
-    pub(crate) first_end: &'a [(u32, Said)],
-    pub(crate) second_end: &'a [(u32, Said)],
     // what the loads start from
     pub(crate) stored: &'a [u8],
 }
 
+impl<'a> Lists<'a> {
+    // Lists of these steps, of which no end is told, and which start from nothing and leave no slip out.
+    pub(crate) fn of(first: &'a [(Step, Said)], second: &'a [(Step, Said)]) -> Lists<'a> {
+        Lists {
+            first: List {
+                steps: first,
+                end: &[],
+            },
+            second: List {
+                steps: second,
+                end: &[],
+            },
+            hand: &[],
+            stored: &[],
+        }
+    }
+}
+
 // Both lists on two boards under the grid, to their end.
-pub(crate) fn run_under_grids(rt: &impl Abort, heap: Global, lists: Lists) -> Result<(), Fail> {
+pub(crate) fn run_under_grids(heap: Global, lists: Lists) -> Result<(), Fail> {
     let grid = grid()?;
-    let _ = run(rt, heap, grid, grid, lists)?;
+    let _ = run(heap, grid, grid, lists)?;
     Ok(())
 }
 
 // Both lists on two boards under any feeders, to their end: all has to be as the lists say. The first board's answers.
 pub(crate) fn run<F: Feeder + Drop, G: Feeder + Drop>(
-    rt: &impl Abort,
     heap: Global,
     first: F,
     second: G,
@@ -51,41 +74,52 @@ pub(crate) fn run<F: Feeder + Drop, G: Feeder + Drop>(
 ) -> Result<Vec<Answer>, Fail> {
     let first = board(heap, FIRST, first, lists.first, lists.stored)?;
     let second = board(heap, SECOND, second, lists.second, lists.stored)?;
-    run_boards(rt, heap, first, second, lists)
+    run_boards(heap, first, second, lists)
 }
 
 // The same on boards that have these lists.
 pub(crate) fn run_boards<F: Feeder + Drop, G: Feeder + Drop>(
-    rt: &impl Abort,
     heap: Global,
     first: Board<F>,
     second: Board<G>,
     lists: Lists,
 ) -> Result<Vec<Answer>, Fail> {
-    match replay_both(heap, first, second) {
-        Ok(both) => {
-            let right_hand = is_hand(&both.slips, lists.hand);
-            let ended = both.end();
-            let right = agree(&ended, lists) & right_hand;
-            answers_if(rt, right, ended.first_answers)
-        }
-        Err(_) => Err(Fail::new("the jobs are different")),
+    let both = replay_both(heap, first, second).map_err(|no| no.why)?;
+    let right_hand = is_hand(&both.slips, lists.hand);
+    let ended = both.end();
+    if !right_hand {
+        return Err(Fail::new("other slips are out"));
     }
+    lists.first.agree(&ended.first, &ended.first_answers)?;
+    lists.second.agree(&ended.second, &ended.second_answers)?;
+    Ok(ended.first_answers)
 }
 
-fn answers_if(rt: &impl Abort, right: bool, answers: Vec<Answer>) -> Result<Vec<Answer>, Fail> {
-    assert!(rt; right);
-    Ok(answers)
-}
+impl List<'_> {
+    // All answers and the sheet at the end have to be as the list says.
+    fn agree<F: Feeder>(&self, sheet: &Sheet<F>, answers: &[Answer]) -> Result<(), Fail> {
+        let job = sheet.job();
+        if let Some(place) = first_other(answers, job, self.steps) {
+            return Err(Fail::new(format_args!("job {job}: another answer at {place}")));
+        }
+        if answers.len() != self.steps.len() {
+            return Err(Fail::new(format_args!("job {job}: calls without an answer")));
+        }
+        if !self.shows_end(sheet) {
+            return Err(Fail::new(format_args!("job {job}: another sheet at the end")));
+        }
+        Ok(())
+    }
 
-// Whether all answers and both sheets are as the lists say, with nothing open. `&` asks everything, so that the proof has one way.
-fn agree<F: Feeder, G: Feeder>(ended: &Ended<F, G>, lists: Lists) -> bool {
-    let first = first_other(&ended.first_answers, FIRST, lists.first) == lists.first.len();
-    let second = first_other(&ended.second_answers, SECOND, lists.second) == lists.second.len();
-    first
-        & second
-        & shows_all(&ended.first, lists.first_end)
-        & shows_all(&ended.second, lists.second_end)
+    // Whether nothing is open, and each position of the end shows what is expected of it.
+    fn shows_end<F: Feeder>(&self, sheet: &Sheet<F>) -> bool {
+        let all_shown = self.end.iter().all(|(position, said)| {
+            sheet
+                .position(*position)
+                .is_ok_and(|state| Said::from(state) == *said)
+        });
+        all_shown && sheet.counts().opened == 0
+    }
 }
 
 // A board of one of the two jobs.
@@ -93,73 +127,38 @@ pub(crate) fn board<F: Feeder + Drop>(
     heap: Global,
     job: u16,
     feeder: F,
-    steps: &[(Step, Said)],
+    list: List,
     stored: &[u8],
-) -> Result<Board<F>, Fail> {
-    let other = if job == FIRST { SECOND } else { FIRST };
+) -> Result<Board<F>, AllocError> {
     let given = Given {
+        heap,
         own: job,
-        other,
+        other: if job == FIRST { SECOND } else { FIRST },
         stored,
     };
     Ok(Board {
         job,
         feeder,
-        calls: calls(heap, given, steps)?,
+        calls: given.calls(list.steps)?,
     })
 }
 
 // Whether these are the slips, in this order.
 fn is_hand(slips: &[Slip], expected: &[(u16, u32)]) -> bool {
-    for (i, (job, position)) in expected.iter().enumerate() {
-        match slips.get(i) {
-            Some(slip) => {
-                if slip.job() != *job || slip.position() != *position {
-                    return false;
-                }
-            }
-            None => return false,
-        }
-    }
-    slips.len() == expected.len()
+    let in_hand = slips.iter().map(|slip| (slip.job(), slip.position()));
+    in_hand.eq(expected.iter().copied())
 }
 
-// Whether nothing is open, and each of these positions shows what is expected of it.
-fn shows_all<F: Feeder>(sheet: &Sheet<F>, expected: &[(u32, Said)]) -> bool {
-    for (position, said) in expected.iter() {
-        match sheet.position(*position) {
-            Ok(state) => {
-                if !same(shown(state), *said) {
-                    return false;
-                }
-            }
-            Err(_) => return false,
-        }
-    }
-    sheet.counts().opened == 0
-}
-
-// The grid of every board: κ 1,350, m + n 1,100, 1,000 ms.
-pub(crate) fn grid() -> Result<Grid, Fail> {
-    match Grid::new(1_350, 1_100, 1_000) {
-        Ok(grid) => Ok(grid),
-        Err(_) => Err(Fail::new("these are a grid's sizes")),
-    }
-}
-
-// A curve of these points; one that does not fit would be left out.
-pub(crate) fn curve(heap: Global, points: &[Point]) -> Curve {
+// A curve of these points.
+pub(crate) fn curve(heap: Global, points: &[Point]) -> Result<Curve, CurveError> {
     let mut curve = Curve::new(heap);
-    for point in points.iter() {
-        let _ = curve.add(*point);
+    for point in points {
+        curve.add(*point)?;
     }
-    curve
+    Ok(curve)
 }
 
 // Motors of 5,000 A and 100,000,000 A²·ms over a feeder.
-pub(crate) fn motors<F: Feeder + Drop>(below: F) -> Result<Motors<F>, Fail> {
-    match Motors::new(below, 5_000, 100_000_000) {
-        Ok(motors) => Ok(motors),
-        Err(_) => Err(Fail::new("these are motors' sizes")),
-    }
+pub(crate) fn motors<F: Feeder + Drop>(below: F) -> Result<Motors<F>, Question> {
+    Motors::new(below, 5_000, 100_000_000)
 }

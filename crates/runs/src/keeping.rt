@@ -1,12 +1,14 @@
 // Saved in one run and loaded in a later one: the noes of both, and the same blocks again.
 use super::bars::Bar;
-use super::boards::{Lists, grid, run};
+use super::boards::{Lists, run};
 use super::said::Said;
 use super::steps::{Change, Step, Whose};
 use history::call::Answer;
+use samples::supply::grid;
 use std::alloc::Global;
-use std::process::Abort;
 use std::test::Fail;
+use stored::block::BLOCK;
+use stored::place::POSITIONS;
 
 // Buffers that are too short, and a save while a position is open; then the blocks of positions 2, 5 and 32.
 const SAVING: [(Step, Said); 13] = [
@@ -97,48 +99,37 @@ const ELSEWHERE: [(Step, Said); 3] = [
 ];
 
 // The blocks of the first save among the answers.
-fn saved(answers: Vec<Answer>) -> Result<Vec<u8>, Fail> {
-    for answer in answers {
-        if let Answer::Saved(Ok(blocks), buffer) = answer {
-            let mut buffer = buffer;
-            buffer.truncate(512 * blocks.min(33));
-            return Ok(buffer);
+fn saved(answers: Vec<Answer>) -> Option<Vec<u8>> {
+    answers.into_iter().find_map(|answer| match answer {
+        Answer::Saved(Ok(blocks), mut buffer) => {
+            // an answer is plain data, which does not say that the blocks fit the buffer
+            buffer.truncate(BLOCK * blocks.min(1 + POSITIONS));
+            Some(buffer)
         }
-    }
-    Err(Fail::new("nothing was saved"))
+        _ => None,
+    })
 }
 
 // The blocks that a run of these lists saves first on its first board.
-fn blocks_of(rt: &impl Abort, heap: Global, lists: Lists) -> Result<Vec<u8>, Fail> {
+fn blocks_of(heap: Global, lists: Lists) -> Result<Vec<u8>, Fail> {
     let grid = grid()?;
-    saved(run(rt, heap, grid, grid, lists)?)
+    let answers = run(heap, grid, grid, lists)?;
+    Ok(saved(answers).ok_or("nothing was saved")?)
 }
 
-// These blocks in a later run, which saves the same again.
-fn load_later(rt: &impl Abort, heap: Global, blocks: &[u8]) -> Result<(), Fail> {
+// What a later run saves after it loaded these blocks.
+fn saved_again(heap: Global, blocks: &[u8]) -> Result<Vec<u8>, Fail> {
     let loading = Lists {
-        first: &LOADING,
-        second: &ELSEWHERE,
-        hand: &[],
-        first_end: &[],
-        second_end: &[],
         stored: blocks,
+        ..Lists::of(&LOADING, &ELSEWHERE)
     };
-    let again = blocks_of(rt, heap, loading)?;
-    assert!(rt; again.as_slice() == blocks);
-    Ok(())
+    blocks_of(heap, loading)
 }
 
 #[test]
 fn saved_and_loaded_later(rt: HostRuntime) -> Result<(), Fail> {
-    let saving = Lists {
-        first: &SAVING,
-        second: &[],
-        hand: &[],
-        first_end: &[],
-        second_end: &[],
-        stored: &[],
-    };
-    let blocks = blocks_of(&rt, rt.alloc(), saving)?;
-    load_later(&rt, rt.alloc(), &blocks)
+    let blocks = blocks_of(rt.alloc(), Lists::of(&SAVING, &[]))?;
+    let again = saved_again(rt.alloc(), &blocks)?;
+    assert!(rt; again == blocks);
+    Ok(())
 }

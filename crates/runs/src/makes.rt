@@ -1,12 +1,12 @@
 // Two boards under feeders of different make that tell the same: the same answers to the same list, and a harder bar no softer.
 use super::bars::Bar;
-use super::boards::{FIRST, Lists, SECOND, curve, grid, motors, run};
+use super::boards::{FIRST, Lists, SECOND, curve, motors, run};
 use super::said::Said;
 use super::steps::{Step, Whose};
 use feeder::fuse::Fuse;
 use feeder::point::Point;
+use samples::supply::grid;
 use std::alloc::Global;
-use std::process::Abort;
 use std::test::Fail;
 
 // A curve that cuts nothing at any level: a fuse with it tells what the feeder below tells.
@@ -146,33 +146,21 @@ const UNDER_MOTORS: [(Step, Said); 30] = [
     (Step::Position(1), Said::Accepted(600_000)),
 ];
 
-// Two lists, and the slips that they leave out.
-fn both<'a>(
-    first: &'a [(Step, Said)],
-    second: &'a [(Step, Said)],
-    hand: &'a [(u16, u32)],
-) -> Lists<'a> {
-    Lists {
-        first,
-        second,
-        hand,
-        first_end: &[],
-        second_end: &[],
-        stored: &[],
-    }
-}
-
 // Both lists, the first under the grid, and the second under an idle fuse over it.
-fn run_with_idle_fuse(rt: &impl Abort, heap: Global, lists: Lists) -> Result<(), Fail> {
+fn run_with_idle_fuse(heap: Global, lists: Lists) -> Result<(), Fail> {
     let grid = grid()?;
-    let fuse = Fuse::new(grid, curve(heap, &IDLE));
-    let _ = run(rt, heap, grid, fuse, lists)?;
+    let fuse = Fuse::new(grid, curve(heap, &IDLE)?);
+    let _ = run(heap, grid, fuse, lists)?;
     Ok(())
 }
 
 #[test]
 fn a_grid_and_an_idle_fuse(rt: HostRuntime) -> Result<(), Fail> {
-    run_with_idle_fuse(&rt, rt.alloc(), both(&UNDER_GRID, &UNDER_GRID, &LEFT_OPEN))
+    let lists = Lists {
+        hand: &LEFT_OPEN,
+        ..Lists::of(&UNDER_GRID, &UNDER_GRID)
+    };
+    run_with_idle_fuse(rt.alloc(), lists)
 }
 
 // A fuse over motors, and motors over a fuse: they tell the same at the levels of the list.
@@ -180,15 +168,13 @@ fn a_grid_and_an_idle_fuse(rt: HostRuntime) -> Result<(), Fail> {
 fn two_piles(rt: HostRuntime) -> Result<(), Fail> {
     let heap = rt.alloc();
     let grid = grid()?;
-    let above = Fuse::new(motors(grid)?, curve(heap, &IDLE_BELOW));
-    let below = motors(Fuse::new(grid, curve(heap, &IDLE_BELOW)))?;
-    let _ = run(
-        &rt,
-        heap,
-        above,
-        below,
-        both(&UNDER_MOTORS, &UNDER_MOTORS, &LEFT_OPEN),
-    )?;
+    let above = Fuse::new(motors(grid)?, curve(heap, &IDLE_BELOW)?);
+    let below = motors(Fuse::new(grid, curve(heap, &IDLE_BELOW)?))?;
+    let lists = Lists {
+        hand: &LEFT_OPEN,
+        ..Lists::of(&UNDER_MOTORS, &UNDER_MOTORS)
+    };
+    let _ = run(heap, above, below, lists)?;
     Ok(())
 }
 
@@ -257,33 +243,26 @@ const HARDER: [(Step, Said); 15] = [
     ),
 ];
 
-// The ground of a refusal; every other answer counts as later than any ground.
-fn ground(said: Said) -> u32 {
+// The ground of a refusal.
+fn ground(said: Said) -> Option<u32> {
     match said {
-        Said::Refused(_, ground, _, _) => ground,
-        _ => 6,
+        Said::Refused(_, ground, _, _) => Some(ground),
+        _ => None,
     }
 }
 
-fn no_softer(harder: &[(Step, Said)], easier: &[(Step, Said)]) -> bool {
-    for (i, (_, one)) in harder.iter().enumerate() {
-        match easier.get(i) {
-            Some((_, other)) => {
-                if ground(*one) > ground(*other) {
-                    return false;
-                }
-            }
-            None => return false,
-        }
-    }
-    true
+// Whether an answer is a refusal wherever the easier one is, on no later ground.
+fn no_softer(harder: Said, easier: Said) -> bool {
+    ground(easier).is_none_or(|later| ground(harder).is_some_and(|ground| ground <= later))
 }
 
 // Where the easier bar is refused the harder one is, on the same ground or an earlier one, on whichever board it stands.
 #[test]
 fn a_harder_bar(rt: HostRuntime) -> Result<(), Fail> {
-    run_with_idle_fuse(&rt, rt.alloc(), both(&EASIER, &HARDER, &[]))?;
-    run_with_idle_fuse(&rt, rt.alloc(), both(&HARDER, &EASIER, &[]))?;
-    assert!(rt; no_softer(&HARDER, &EASIER));
+    run_with_idle_fuse(rt.alloc(), Lists::of(&EASIER, &HARDER))?;
+    run_with_idle_fuse(rt.alloc(), Lists::of(&HARDER, &EASIER))?;
+    for ((_, harder), (_, easier)) in HARDER.iter().zip(&EASIER) {
+        assert!(rt; no_softer(*harder, *easier));
+    }
     Ok(())
 }

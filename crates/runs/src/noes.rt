@@ -1,6 +1,6 @@
 // A no of every number of a record and of the calls, in a list: the call after each is carried out.
 use super::bars::Bar;
-use super::boards::{FIRST, Lists, run_under_grids};
+use super::boards::{FIRST, List, Lists, run_under_grids};
 use super::said::Said;
 use super::steps::{Step, Whose};
 use std::test::Fail;
@@ -83,18 +83,22 @@ const SLIPS: [(Step, Said); 9] = [
 #[test]
 fn of_the_calls(rt: HostRuntime) -> Result<(), Fail> {
     let lists = Lists {
-        first: &CALLS,
-        second: &SLIPS,
+        first: List {
+            steps: &CALLS,
+            end: &[
+                (1, Said::Accepted(600_000)),
+                (2, Said::Empty),
+                (32, Said::Empty),
+            ],
+        },
+        second: List {
+            steps: &SLIPS,
+            end: &[],
+        },
         hand: &[(FIRST, 1)],
-        first_end: &[
-            (1, Said::Accepted(600_000)),
-            (2, Said::Empty),
-            (32, Said::Empty),
-        ],
-        second_end: &[],
         stored: &[],
     };
-    run_under_grids(&rt, rt.alloc(), lists)
+    run_under_grids(rt.alloc(), lists)
 }
 
 // A bad record entered, and closed with: the good one after it stands.
@@ -116,15 +120,7 @@ fn about_record(question: u32) -> [(Step, Said); 8] {
 fn of_records(rt: HostRuntime) -> Result<(), Fail> {
     for question in 10..18u32 {
         let list = about_record(question);
-        let lists = Lists {
-            first: &list,
-            second: &list,
-            hand: &[],
-            first_end: &[],
-            second_end: &[],
-            stored: &[],
-        };
-        run_under_grids(&rt, rt.alloc(), lists)?;
+        run_under_grids(rt.alloc(), Lists::of(&list, &list))?;
     }
     Ok(())
 }

@@ -1,17 +1,21 @@
 // A table of two lists of calls, the first board under a fuse over the grid and the second under motors over it.
 // The answers were worked out by a separate model of the sheet.
 use super::bars::Bar;
-use super::boards::Lists;
+use super::boards::{List, Lists};
 use super::said::Said;
 use super::steps::{Step, Whose};
 
 // Both lists, the slips that are out after them, and positions of the sheets at the end.
 pub(crate) const LISTS: Lists<'static> = Lists {
-    first: &FIRST,
-    second: &SECOND,
+    first: List {
+        steps: &FIRST,
+        end: &FIRST_END,
+    },
+    second: List {
+        steps: &SECOND,
+        end: &SECOND_END,
+    },
     hand: &HAND,
-    first_end: &FIRST_END,
-    second_end: &SECOND_END,
     stored: &[],
 };
 

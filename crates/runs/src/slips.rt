@@ -1,12 +1,12 @@
 // Slips of one board tried on the other, and two boards of one job.
 use super::bars::Bar;
-use super::boards::{FIRST, Lists, SECOND, board, grid, run_boards, run_under_grids};
+use super::boards::{FIRST, List, Lists, SECOND, board, run_boards, run_under_grids};
 use super::said::Said;
 use super::steps::{Step, Whose};
 use feeder::grid::Grid;
 use history::both::{Board, Hindrance, NotRun, replay_both};
+use samples::supply::grid;
 use std::alloc::Global;
-use std::process::Abort;
 use std::test::Fail;
 
 // Three slips are given out, and stay out.
@@ -78,59 +78,57 @@ const TRIED: [(u32, Said); 4] = [
 
 // A refused slip goes back to its place, so those of the first board are out in the order in which they were given.
 const LISTS: Lists<'static> = Lists {
-    first: &GIVING,
-    second: &TRYING,
+    first: List {
+        steps: &GIVING,
+        end: &GAVE,
+    },
+    second: List {
+        steps: &TRYING,
+        end: &TRIED,
+    },
     hand: &[(FIRST, 2), (FIRST, 1), (FIRST, 3), (SECOND, 3)],
-    first_end: &GAVE,
-    second_end: &TRIED,
     stored: &[],
 };
 
 #[test]
 fn tried_on_the_other_board(rt: HostRuntime) -> Result<(), Fail> {
-    run_under_grids(&rt, rt.alloc(), LISTS)
+    run_under_grids(rt.alloc(), LISTS)
 }
 
 // Whether nothing was run because of the jobs, and both boards are there with their jobs and lists.
 fn came_back(no: &NotRun<Grid, Grid>) -> bool {
-    matches!(no.why, Hindrance::SameJob)
-        & (no.first.job == FIRST)
-        & (no.second.job == FIRST)
-        & (no.first.calls.len() == GIVING.len())
-        & (no.second.calls.len() == TRYING.len())
-}
-
-// Once the second board has a job of its own the lists run: they came back whole.
-fn run_after_all(rt: &impl Abort, heap: Global, no: NotRun<Grid, Grid>) -> Result<(), Fail> {
-    let mut second = no.second;
-    second.job = SECOND;
-    let _ = run_boards(rt, heap, no.first, second, LISTS)?;
-    Ok(())
+    no.why == Hindrance::SameJob
+        && no.first.job == FIRST
+        && no.second.job == FIRST
+        && no.first.calls.len() == GIVING.len()
+        && no.second.calls.len() == TRYING.len()
 }
 
 fn refused(
-    rt: &impl Abort,
     heap: Global,
     first: Board<Grid>,
     second: Board<Grid>,
-) -> Result<(), Fail> {
+) -> Result<NotRun<Grid, Grid>, Fail> {
     match replay_both(heap, first, second) {
         Ok(both) => {
             let _ = both.end();
             Err(Fail::new("slips of one job cannot be told apart"))
         }
-        Err(no) => {
-            assert!(rt; came_back(&no));
-            run_after_all(rt, heap, no)
-        }
+        Err(no) => Ok(no),
     }
 }
 
+// Once the second board has a job of its own the lists run: they came back whole.
 #[test]
 fn one_job_twice(rt: HostRuntime) -> Result<(), Fail> {
+    let heap = rt.alloc();
     let grid = grid()?;
-    let first = board(rt.alloc(), FIRST, grid, &GIVING, &[])?;
-    let mut second = board(rt.alloc(), SECOND, grid, &TRYING, &[])?;
+    let first = board(heap, FIRST, grid, LISTS.first, LISTS.stored)?;
+    let mut second = board(heap, SECOND, grid, LISTS.second, LISTS.stored)?;
     second.job = FIRST;
-    refused(&rt, rt.alloc(), first, second)
+    let mut no = refused(heap, first, second)?;
+    assert!(rt; came_back(&no));
+    no.second.job = SECOND;
+    let _ = run_boards(heap, no.first, no.second, LISTS)?;
+    Ok(())
 }

@@ -63,6 +63,7 @@ fn work(rt: &impl Print) -> Result<(), Trouble> {
     Ok(())
 }
 
+// A few lines that both programs have: each ends by troubles of its own.
 fn main(rt: HostRuntime) -> io::Result<()> {
     match work(&rt) {
         Ok(()) => Ok(()),

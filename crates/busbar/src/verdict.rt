@@ -48,6 +48,7 @@ impl Ground {
     }
 }
 
+// Numbered and printed as a question is: a trait for two methods of one line each would be no plainer.
 impl fmt::Display for Ground {
     ghost output = { λ g. Some (decimal (ground_number g)) };
 

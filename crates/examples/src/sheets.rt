@@ -87,13 +87,11 @@ fn a_revised_level(rt: HostRuntime) -> Result<(), Fail> {
 fn closed(sheet: &mut Sheet<Grid>, slip: Slip, bar: Record) -> Result<(), Question>
     requires { Fits slip (plain_of sheet.old) }
 {
-    match sheet.close(slip, bar) {
-        Ok(()) => Ok(()),
-        Err(Unspent { slip, question }) => {
-            sheet.withdraw(slip).unwrap();
-            Err(question)
-        }
+    if let Err(Unspent { slip, question }) = sheet.close(slip, bar) {
+        sheet.withdraw(slip).unwrap();
+        return Err(question);
     }
+    Ok(())
 }
 
 // The answers while a position is open. The slip is spent at the end.
@@ -125,13 +123,11 @@ fn tried_elsewhere(
     position: u32,
 ) -> Result<(), Question> {
     let slip = mine.open(position)?;
-    match other.withdraw(slip) {
-        Ok(()) => Ok(()),
-        Err(Unspent { slip, question }) => {
-            mine.withdraw(slip).unwrap();
-            Err(question)
-        }
+    if let Err(Unspent { slip, question }) = other.withdraw(slip) {
+        mine.withdraw(slip).unwrap();
+        return Err(question);
     }
+    Ok(())
 }
 
 #[test]

@@ -89,6 +89,7 @@ fn work(rt: &impl Print, heap: Global) -> Result<(), Trouble> {
     finish(rt, ended, told)
 }
 
+// A few lines that both programs have: each ends by troubles of its own.
 fn main(rt: HostRuntime) -> io::Result<()> {
     match work(&rt, rt.alloc()) {
         Ok(()) => Ok(()),

@@ -149,7 +149,7 @@ fn is_hand(slips: &[Slip], expected: &[(u16, u32)]) -> bool {
     in_hand.eq(expected.iter().copied())
 }
 
-// A curve of these points.
+// A curve of these points. The examples have the same few lines: one copy would be public, under a contract longer than they are.
 pub(crate) fn curve(heap: Global, points: &[Point]) -> Result<Curve, CurveError> {
     let mut curve = Curve::new(heap);
     for point in points {

@@ -8,3 +8,4 @@ pub mod Figures
 pub mod Verdict
 pub mod Exact
 pub mod Harder
+pub mod Worded

@@ -1,7 +1,8 @@
 // The record: one bar as it is entered.
-ghost use Rattle.std.specs.Prelude.{◌≡◌, false, MatchResult, if◌then◌else◌};
+ghost use Rattle.std.specs.Prelude.{◌≡◌, false, MatchResult, Some, if◌then◌else◌};
 ghost use Rattle.busbar.specs.Factors.{scheme_number};
 ghost use Rattle.busbar.specs.Rounding.{within};
+ghost use Rattle.busbar.specs.Worded.{unknown_scheme_text};
 ghost use Rattle.busbar.specs.declared.record.FaultKind.TheVariants.{ThreePhase, TwoLine};
 
 use super::section::Section;
@@ -63,6 +64,8 @@ impl TryFrom<u32> for Scheme {
 }
 
 impl fmt::Display for UnknownScheme {
+    ghost output = { λ e. Some (unknown_scheme_text e) };
+
     fn fmt<W: fmt::Write>(&self, f: &mut fmt::Formatter<W>) -> fmt::Result {
         write!(f, "no scheme has the number {}", self.0)
     }

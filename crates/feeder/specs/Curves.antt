@@ -1,8 +1,9 @@
 -- A fuse keeps the law, whatever lawful feeder is below.
-use Rattle.std.specs.Prelude.{◌≡◌, ℕ, suc, ◌-◌, ◌<◌, ◌≤◌, Bool, true, false, ◌&&◌, leb, List, [], ◌∷◌, ◌++◌, length, Some, None, Option, nat_le, nat_lt, slice_index_or, refl}
+use Rattle.std.specs.Prelude.{◌≡◌, ℕ, suc, ◌+◌, ◌-◌, ◌<◌, ◌≤◌, Bool, true, false, ◌&&◌, leb, List, [], ◌∷◌, ◌++◌, length, get_or, drop, Some, None, Option, nat_le, nat_lt, slice_index_or, refl}
 use Rattle.std.proofs.Math.Bool.{and_assoc}
 use Rattle.std.proofs.Common.{sym, ap, subst, ◌∙◌, le_refl, arith}
-use Rattle.std.proofs.lemmas.Bool.{and_parts, leb-true, leb-false, lt-leb, cond-false, cond_both, and_from}
+use Rattle.std.proofs.lemmas.List.{at_drop_more, at_drop_all}
+use Rattle.std.proofs.lemmas.Bool.{and_parts, leb-true, leb-false, le-leb, lt-leb, cond-true, cond-false, cond_both, and_from}
 use Rattle.busbar.specs.Rounding.{within}
 use Rattle.busbar.specs.Harder.{NoSmaller}
 use Rattle.busbar.proofs.Ranges.{inside_of}
@@ -110,6 +111,21 @@ order_push (q ∷ rest) p h =
 pub takes_is : (xs : List Point) (p : Point) → in_order xs ≡ true → takes xs p ≡ (nat_lt (length xs) 8 && point_inside p && last_before xs p)
 takes_is xs p h =
     ap (λ b. nat_lt (length xs) 8 && b) (order_push xs p h) ∙ sym (and_assoc (nat_lt (length xs) 8) (point_inside p) (last_before xs p))
+
+-- the search for the point that counts, step by step, over the points xs that a curve ys lends
+
+pub counts_here : (xs ys : List Point) (i n : ℕ) (d : Point) → xs ≡ ys → counting xs n ≡ counting (drop i xs) n → i < length xs → n ≤ (get_or xs i d).level → Some (slice_index_or xs i d) ≡ counting ys n
+counts_here xs ys i n d same inv h le =
+    sym (ap (λ l. counting l n) (sym same) ∙ inv ∙ at_drop_more (λ l. counting l n) xs i d h
+    ∙ cond-true (nat_le n (get_or xs i d).level) _ _ (le-leb _ _ le))
+
+pub counts_later : (xs : List Point) (i n : ℕ) (d : Point) → counting xs n ≡ counting (drop i xs) n → i < length xs → (get_or xs i d).level < n → counting xs n ≡ counting (drop (i + 1) xs) n
+counts_later xs i n d inv h lt =
+    inv ∙ at_drop_more (λ l. counting l n) xs i d h ∙ cond-false (nat_le n (get_or xs i d).level) _ _ (lt-leb _ _ lt)
+
+pub counts_nowhere : (xs ys : List Point) (i n : ℕ) → xs ≡ ys → counting xs n ≡ counting (drop i xs) n → length xs ≤ i → None ≡ counting ys n
+counts_nowhere xs ys i n same inv h =
+    sym (ap (λ l. counting l n) (sym same) ∙ inv ∙ at_drop_all (λ l. counting l n) xs i h)
 
 -- the smaller of two figures
 

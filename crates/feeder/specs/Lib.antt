@@ -6,3 +6,4 @@ pub mod Curves
 pub mod Figures
 pub mod Grids
 pub mod Sums
+pub mod Worded

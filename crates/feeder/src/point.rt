@@ -1,5 +1,6 @@
 // A point of a fuse's curve, and why one may not go onto it.
-ghost use Rattle.std.specs.Prelude.{◌≡◌};
+ghost use Rattle.std.specs.Prelude.{◌≡◌, Some};
+ghost use Rattle.feeder.specs.Worded.{curve_error_text};
 ghost use Rattle.feeder.specs.declared.point.CurveError.TheVariants.{Memory, Refused};
 
 use busbar::question::Question;
@@ -44,6 +45,8 @@ impl<T: Drop> From<AllocFailed<T>> for CurveError {
 }
 
 impl fmt::Display for CurveError {
+    ghost output = { λ e. Some (curve_error_text e) };
+
     fn fmt<W: fmt::Write>(&self, f: &mut fmt::Formatter<W>) -> fmt::Result {
         match self {
             Self::Refused(no) => write!(f, "question {no}"),

@@ -27,12 +27,13 @@ pub fn replay<F: Feeder>(
 ) -> Result<Vec<Answer>, NoRoom>
     ensures { ReplayOutcome F.Feeder.meaning sheet.old slips.old.items calls.items result sheet.new slips.new.items }
 {
-    if slips.reserve(calls.len()).is_err() {
-        return Err(NoRoom { calls });
-    }
     let Ok(answers) = Vec::with_capacity(heap, calls.len()) else {
         return Err(NoRoom { calls });
     };
+    // last, so that on a no the slips in hand keep the room that they had
+    if slips.reserve(calls.len()).is_err() {
+        return Err(NoRoom { calls });
+    }
     Ok(carry_out(sheet, slips, calls, answers))
 }
 

@@ -1,6 +1,5 @@
 pub mod Tables
 pub mod Levels
-pub mod Maps
 pub mod Shows
 pub mod Stores
 pub mod Loads

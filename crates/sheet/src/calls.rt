@@ -90,7 +90,10 @@ impl<F: Feeder> Sheet<F> {
         ensures { Rejudged F.Feeder.meaning self.old self.new }
     {
         let told = self.feeder.tell(self.level.value);
-        self.table = self.table.map(|state| state.judged_again(told));
+        // in its place: `map` would move the whole table several times over
+        for state in self.table.iter_mut() {
+            *state = state.judged_again(told);
+        }
     }
 
     // The change that a slip stands for, which spends it. That the very same slip comes back relates what is given to what comes back,

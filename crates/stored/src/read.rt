@@ -126,7 +126,11 @@ fn word<const N: usize>(part: &[u8], place: usize) -> [u8; N]
     ensures { result ≡ map (λ k. slice_index part.now (place + k)) (range_with_len 0 N) }
 {
     let rest = &part[place.min(part.len())..];
-    array::from_fn(|k| byte(rest, k))
+    match rest.first_chunk::<N>() {
+        // a whole block's numbers all lie inside it: they are read at once
+        Some(bytes) => *bytes,
+        None => array::from_fn(|k| byte(rest, k)),
+    }
 }
 
 // The byte at a place. By the definition 0 past the end, so that parts of any length can be read.
@@ -136,9 +140,25 @@ fn byte(part: &[u8], place: usize) -> u8
     part.get(place).copied().unwrap_or(0)
 }
 
-// Whether the bytes from a place up to the check are all 0.
+// Whether the bytes from a place up to the check are all 0. A block is cut to its 510 bytes first: `take` and `skip` would count at each.
 fn zero_from(part: &[u8], place: usize) -> bool
     ensures { result ≡ zeros (drop place (take 510 part.now)) }
 {
-    part.iter().take(510).skip(place).all(|byte| *byte == 0)
+    if part.len() < 510 {
+        zero_to_the_end(part, place)
+    } else {
+        zero_to_the_end(&part[..510], place)
+    }
+}
+
+fn zero_to_the_end(bytes: &[u8], place: usize) -> bool
+    ensures { result ≡ zeros (drop place bytes.now) }
+{
+    all_zero(&bytes[place.min(bytes.len())..])
+}
+
+fn all_zero(bytes: &[u8]) -> bool
+    ensures { result ≡ zeros bytes.now }
+{
+    bytes.iter().all(|byte| *byte == 0)
 }

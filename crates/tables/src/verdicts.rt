@@ -3,6 +3,7 @@ use super::row::Row;
 use busbar::checked::CheckedRecord;
 use busbar::ranged::Peak;
 use busbar::record::{FaultKind, Record, Scheme};
+use busbar::section::{Section, SubBars};
 use busbar::verdict::judge;
 
 #[derive(PartialEq, Eq, Clone, Copy)]
@@ -41,7 +42,28 @@ fn record(row: &mut Row) -> Option<Record> {
         yield_stress: row.number()?,
         rated_density: row.number()?,
         support_strength: row.number()?,
-        section: row.section(None)?,
+        section: section(row)?,
+    })
+}
+
+// W A q, round, n w e d. By the form of the table n is 0 where it has no sub-bars, and then w e d are not looked at.
+fn section(row: &mut Row) -> Option<Section> {
+    let modulus = row.number()?;
+    let area = row.number()?;
+    let plastic_factor = row.number()?;
+    let round = row.flag()?;
+    let bars = SubBars {
+        count: row.number()?,
+        modulus: row.number()?,
+        distance: row.number()?,
+        spacing: row.number()?,
+    };
+    Some(Section {
+        modulus,
+        area,
+        plastic_factor,
+        round,
+        sub_bars: (bars.count != 0).then_some(bars),
     })
 }
 

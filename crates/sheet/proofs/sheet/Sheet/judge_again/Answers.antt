@@ -1,14 +1,12 @@
-use Rattle.std.proofs.Common.{refl, rules}
+use Rattle.std.proofs.Common.{set, sym, ap, ◌∙◌, arith}
+use Rattle.std.proofs.lemmas.List.Edits.{map_over_more}
 use Rattle.sheet.specs.Position.{again}
-use Rattle.sheet.proofs.Maps.{maps}
 use Rattle.sheet.proofs.sheet.Sheet.judge_again.Goals as goal
 
-pub returns : goal.returns
-returns g c =
-    let sheet = c.args.self.now in
-    record {
-      table = maps _ (again (g.F.Feeder.meaning sheet.feeder sheet.level.value)) _ (λ x y f' called. search rules) sheet.table _ _ sheet.full c.map-self.ensures.items;
-      same_level = refl;
-      same_job = refl;
-      same_feeder = refl;
-    }
+pub loop-state-preserved : goal.loop-state-preserved
+loop-state-preserved g c =
+    let told = c.tell-told.result in
+    let table = c.loop-state.state-items in
+    let item = c.state-item in
+    ap (set table c.loop-state.state-index) (c.judged_again.ensures ∙ ap (again told) (sym item.is))
+    ∙ map_over_more (again told) c.args.self.now.table table c.loop-state.state-index item.result (omega arith) c.loop-state.invariant item.is

@@ -1,3 +1,4 @@
 pub mod Blocks
 pub mod FromFn
 pub mod Trips
+pub mod Zeros
